@@ -11,6 +11,8 @@ START = 1369353600
 # How the names of user-defined metadata begin, and all names of system-defined metadata.
 METADATA = "x-amz-meta-"
 SYSTEM = ("cache-control", "content-disposition", "content-encoding", "content-language", "expires")
+# What stands before the name of a line that a read asks for in the place of what is kept.
+INSTEAD = "="
 # What a 304 has of the lines that a 200 to the same request would have (RFC 9110, section 15.4.5).
 OF_UNCHANGED = ("cache-control", "content-location", "date", "etag", "expires", "vary")
 # The headers that replies have, in their order.
@@ -38,7 +40,10 @@ def date(moment):
 
 
 def place(name):
-    """Where a header stands among others. Those of metadata are sorted by their names."""
+    """Where a header stands among others. Those of metadata are sorted by their names, and those that stand in the place
+    of others by theirs."""
+    if name.startswith(INSTEAD):
+        return ORDER.index("Content-Length") - 0.5, name
     return ORDER.index(METADATA if name.startswith(METADATA) or name in SYSTEM else name), name
 
 
@@ -49,7 +54,7 @@ def reply(status, number, lines=(), body=Body(), moment=START):
     told |= {} if status in (204, 304) else {"Content-Length": str(body.size)}
     for name, _, value in (line.partition(":") for line in lines):
         told[name] = value.removeprefix(" ")
-    head = [f"{name}: {told[name]}" for name in sorted(told, key=place)]
+    head = [f"{name.removeprefix(INSTEAD)}: {told[name]}" for name in sorted(told, key=place)]
     return [f"HTTP/1.1 {status} {REASONS[status]}", *head, "", *(f"{line}|" for line in body.lines())]
 
 
@@ -67,8 +72,9 @@ def of_unmodified(tag, moment):
 
 
 def of_got(tag, moment, content_type):
-    """Those about an object that is sent, or a range of it."""
-    return [*of_unmodified(tag, moment), "Accept-Ranges: bytes", f"Content-Type: {content_type}"]
+    """Those about an object that is sent, or a range of it; its type is told unless another one is."""
+    kind = [] if content_type is None else [f"Content-Type: {content_type}"]
+    return [*of_unmodified(tag, moment), "Accept-Ranges: bytes", *kind]
 
 
 def of_told(dialect):

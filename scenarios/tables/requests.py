@@ -94,6 +94,11 @@ def text_of(value, code="InvalidArgument"):
         raise Refused(code) from None
 
 
+def as_told(value):
+    """A value, whatever bytes it has."""
+    return value.decode(errors="surrogateescape")
+
+
 def token_of(value):
     """The text behind which a list goes on."""
     refuse(not re.fullmatch(rb"([0-9a-f]{2})*", value))
@@ -278,6 +283,15 @@ class Request:
         found = self.value(name, bytes)
         refuse(found is not None and not VERSION_ID.fullmatch(found))
         return found and found.decode()
+
+    def overrides(self):
+        """The header lines that a read wants in the place of those that are kept, by their names."""
+        names = (*SYSTEM, "content-type") if is_s3(self) else ()
+        found = {name: self.value(f"response-{name}", as_told) for name in sorted(names)}
+        found = {name: value for name, value in found.items() if value}
+        refuse(any(re.search("[\0-\x1f\x7f]", value) for value in found.values()))
+        refuse(sum(len(name) + len(value.encode(errors="surrogateescape")) for name, value in found.items()) > 2048)
+        return found
 
     def upload_id(self):
         found = self.value("uploadId", bytes)

@@ -9,7 +9,7 @@ import time
 from .bodies import Body
 from .codes import CODES
 from .documents import JSON, S3, document
-from .replies import OF_UNCHANGED, START, of_got, of_stored, of_told, of_unmodified, reply
+from .replies import INSTEAD, OF_UNCHANGED, START, of_got, of_stored, of_told, of_unmodified, reply
 from .requests import CONFIGURATIONS, Refused, is_s3, operation, refuse
 
 # The least size of a part, but for the last one, in the servers of scenarios.
@@ -313,11 +313,13 @@ class Store:
         return self.told({"ETag": quoted(data.tag), "LastModified": stamp(self.moment)}, shown(name))
 
     def get_object(self, request):
-        name = request.version_id()
+        name, overrides = request.version_id(), request.overrides()
         bucket = self.bucket(request)
         version = bucket.picked(request.key, name)
         data, told = version.data, shown(bucket.mode and version.name)
-        kept = {name: f"{name}: {value}" for name, value in data.metadata.items()}
+        kept = {name: f"{name}: {value}" for name, value in data.metadata.items() if name not in overrides}
+        kept |= {name: f"{INSTEAD}{name}: {value}" for name, value in overrides.items()}
+        content_type = None if "content-type" in overrides else data.content_type
         status = judged(request, "", version)
         deny(status == 412, "PreconditionFailed")
         if status == 304:
@@ -325,7 +327,7 @@ class Store:
             return self.reply(304, [*told, *of_unmodified(data.tag, version.moment)])
         size_told = [f"Content-Range: bytes */{data.body.size}"] if self.dialect == S3 else []
         part = range_of(request.line("range"), data.body.size, size_told)
-        told += [*of_got(data.tag, version.moment, data.content_type), *kept.values()]
+        told += [*of_got(data.tag, version.moment, content_type), *kept.values()]
         if part is None:
             return self.reply(200, told, data.body)
         told.append(f"Content-Range: bytes {part[0]}-{part[1]}/{data.body.size}")

@@ -16,7 +16,7 @@ use Rattle.s3_driver.specs.declared.told.Told.{Told}
 -- why the reply refuses, if it does: the machine did, or no byte of what was read is in the range that was asked for
 abbrev pub code_in : Outcome → Option Code
 code_in (outcomes.Refused code is_delete_marker) = Some code
-code_in (outcomes.Got found Outside) = Some InvalidRange
+code_in (outcomes.Got found Outside overrides) = Some InvalidRange
 code_in (outcomes.OutOfRange size) = Some InvalidRange
 code_in other = None
 

@@ -30,7 +30,7 @@ with_store found t store is =
         small = record { versions = small.versions; uploads = small.uploads };
       };
       named = is.named;
-      below = is.below;
+      sound = is.sound;
     }
 
 pub still_found : (found : Found) (t u : Tables) (store : List StoreColumns) → u ≡ record t { store = store } → IsFound found t → IsFound found u

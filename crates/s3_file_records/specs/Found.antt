@@ -2,7 +2,7 @@
 use Rattle.std.specs.Prelude.{◌≡◌, ℕ, List, pos, [], ◌∷◌}
 use Rattle.s3_found_rows.specs.declared.loading.Found.{Found}
 use Rattle.s3_records.specs.Catalogue.{Catalogue}
-use Rattle.s3_records.specs.Places.{AreBelow}
+use Rattle.s3_keepers.specs.Sound.{IsSoundCatalogue}
 use Rattle.s3_row_steps.specs.Steps.{AreKept}
 use Rattle.s3_rows.specs.Columns.{StoreColumns, Tables}
 use Rattle.s3_rows.specs.Meaning.{catalogue_of}
@@ -12,11 +12,12 @@ use Rattle.s3_mirrored_rows.specs.Mirror.{Mirror}
 use Rattle.s3_table_records.specs.Kept.{Parts, catalogue, kept_in}
 use Rattle.s3_stored_rows.specs.Bodies.{encoding, numbers_named}
 
--- the rows are sound and name these bodies, and those of versions were made by entries whose numbers are below the next one's
+-- the rows are sound and name these bodies, and the catalogue that they are is sound for entries from the next one on, whatever
+-- bytes stand under each number
 pub record IsFound (found : Found) (t : Tables) : Type 0 where
   pub kept : AreKept found.next t
   pub named : (n : ℕ) → times n found.bodies.items ≡ times n (numbers_named t)
-  pub below : (contents : Contents) → AreBelow found.number (catalogue_of (encoding contents) t)
+  pub sound : (contents : Contents) → IsSoundCatalogue (catalogue_of (encoding contents) t) found.number
 
 -- the row of the store is the first one, and says this number
 abbrev pub HasStore : ℕ → Tables → Type 0

@@ -2,8 +2,8 @@
 ghost use Rattle.std.specs.Prelude.{◌≡◌, false, length, IsTrue, IfOk};
 ghost use Rattle.sqlite.specs.State.{HasCleanDisk};
 ghost use Rattle.sqlite.specs.Files.{file_state};
-ghost use Rattle.s3_records.specs.Places.{AreBelow};
 ghost use Rattle.s3_keepers.specs.Begun.{HasBuckets};
+ghost use Rattle.s3_keepers.specs.Sound.{IsSoundCatalogue};
 ghost use Rattle.s3_stored_bodies.specs.Numbers.{times};
 ghost use Rattle.s3_block_bodies.specs.Parts.{uses_in};
 ghost use Rattle.s3_tables.specs.Keeping.{tables as file_tables};
@@ -15,7 +15,7 @@ use crate::file_keeper::FileRecords;
 use crate::numbers::take_numbers;
 use s3_block_bodies::BlockBodies;
 use s3_found_rows::{Found, FoundTables, load};
-use s3_keepers::Opened;
+use s3_keepers::{Opened, add_missing};
 use s3_mirrored_rows::MirroredRows;
 use s3_names::BucketName;
 use s3_sql_rows::SqlRows;
@@ -23,7 +23,7 @@ use s3_storage::StorageFault;
 use s3_stored_bodies::StoredBodies;
 use s3_stored_rows::StoredRows;
 use s3_table_files::{FileTables, make_folder, open_blocks};
-use s3_table_records::{TableRecords, add_missing};
+use s3_table_records::TableRecords;
 use sqlite_disk::Disk;
 use sqlite_std_file::{File, Unknown};
 use std::alloc::Global;
@@ -38,7 +38,7 @@ pub(crate) fn opened(
     path: &str,
     buckets: &[BucketName],
 ) -> Result<Opened<FileRecords>, StorageFault>
-    ensures below { IfOk result (λ opened. AreBelow opened.number (catalogue_in opened.records)) }
+    ensures sound { IfOk result (λ opened. IsSoundCatalogue (catalogue_in opened.records) opened.number) }
     ensures buckets { IfOk result (λ opened. HasBuckets buckets.now (catalogue_in opened.records)) }
 {
     make_folder(rt, path)?;
@@ -66,7 +66,7 @@ fn over_file(
     requires found { IsFound found.now memory }
     requires store { HasStore found.now.number memory }
     requires same { HasCleanDisk (file_state file) → IsTrue (file_state file).is_open → file_tables (file_state file) ≡ memory }
-    ensures below { IfOk result (λ opened. AreBelow opened.number (catalogue_in opened.records)) }
+    ensures sound { IfOk result (λ opened. IsSoundCatalogue (catalogue_in opened.records) opened.number) }
     ensures buckets { IfOk result (λ opened. HasBuckets buckets.now (catalogue_in opened.records)) }
 {
     match found_bodies(rt, alloc, path, found) {
@@ -92,7 +92,7 @@ fn over_both(
     requires store { HasStore found.now.number memory }
     requires same { HasCleanDisk (file_state file) → IsTrue (file_state file).is_open → file_tables (file_state file) ≡ memory }
     requires named { uses_in bodies ≡ (λ number. times number found.now.bodies.items) }
-    ensures below { IfOk result (λ opened. AreBelow opened.number (catalogue_in opened.records)) }
+    ensures sound { IfOk result (λ opened. IsSoundCatalogue (catalogue_in opened.records) opened.number) }
     ensures buckets { IfOk result (λ opened. HasBuckets buckets.now (catalogue_in opened.records)) }
 {
     match mirrored(memory, file, found) {
@@ -114,7 +114,7 @@ fn with_buckets<R: StoredRows + Drop, B: StoredBodies + Drop>(
 ) -> Result<Opened<TableRecords<R, B>>, StorageFault>
     requires found { IsFound found.now (R.tables rows) }
     requires named { B.uses bodies ≡ (λ number. times number found.now.bodies.items) }
-    ensures below { IfOk result (λ opened. AreBelow opened.number (catalogue (kept_in R.tables B.contents B.uses opened.records))) }
+    ensures sound { IfOk result (λ opened. IsSoundCatalogue (catalogue (kept_in R.tables B.contents B.uses opened.records)) opened.number) }
     ensures buckets { IfOk result (λ opened. HasBuckets buckets.now (catalogue (kept_in R.tables B.contents B.uses opened.records))) }
 {
     let mut records = TableRecords::over(rows, bodies, found.next);

@@ -3,6 +3,7 @@ pub mod AlongLemmas
 pub mod GrowLemmas
 pub mod StepLemmas
 pub mod TableLemmas
+pub mod CatalogueLemmas
 pub mod SoundLemmas
 pub mod PutLemmas
 pub mod LoadedLemmas

@@ -1,15 +1,22 @@
 -- Which rows may stand beside others.
-use Rattle.std.specs.Prelude.{ℤ, int_lt, ◌&&◌, Bool, List}
+use Rattle.std.specs.Prelude.{ℤ, pos, negsuc, int_lt, not, ◌&&◌, ◌||◌, Bool, false, List, find, Option, Some, None}
+use Rattle.std.specs.Ordering.{int_eq}
 use Rattle.sqlite_keyed.specs.Keyed.{has_key}
 use Rattle.s3_rows.specs.Columns.{BucketColumns, VersionColumns, UploadColumns, PartColumns, Tables}
+use Rattle.s3_rows.specs.Finding.{is_named}
 use Rattle.s3_rows.specs.Soundness.{bucket_row, version_row, upload_row, part_row, is_bucket_row, is_version_row, is_upload_row, is_part_row, has_bucket_row}
 use Rattle.s3_found_rows.specs.Order.{IsFilled}
 
--- a version: its integers are in range, its bucket is there, and its number is below that of the next entry
-abbrev pub version_fits : ℤ → List BucketColumns → VersionColumns → Bool
-version_fits number bs v = is_version_row v && (has_bucket_row bs v.bucket && int_lt v.number number)
+-- a bucket, if there is one, may have a version: any where its versioning was set, and else one whose id is that of `null`
+abbrev pub may_have : Option BucketColumns → VersionColumns → Bool
+may_have None v = false
+may_have (Some b) v = not (int_eq b.mode (pos 0)) || int_eq v.id (negsuc 0)
 
--- an upload: likewise
+-- a version: its integers are in range, its bucket is there and may have it, and its number is below that of the next entry
+abbrev pub version_fits : ℤ → List BucketColumns → VersionColumns → Bool
+version_fits number bs v = is_version_row v && (may_have (find (is_named v.bucket) bs) v && int_lt v.number number)
+
+-- an upload: its integers are in range, its bucket is there, and its id is below the number of the next entry
 abbrev pub upload_fits : ℤ → List BucketColumns → UploadColumns → Bool
 upload_fits number bs u = is_upload_row u && (has_bucket_row bs u.bucket && int_lt u.id number)
 

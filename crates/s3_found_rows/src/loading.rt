@@ -1,6 +1,6 @@
 //! A store goes on with the rows that were found.
 ghost use Rattle.std.specs.Prelude.{◌≡◌, ℕ, [], ◌∷◌, pos, IfOk};
-ghost use Rattle.s3_records.specs.Places.{AreBelow};
+ghost use Rattle.s3_keepers.specs.Sound.{IsSoundCatalogue};
 ghost use Rattle.s3_rows.specs.Columns.{StoreColumns, no_rows};
 ghost use Rattle.s3_rows.specs.Meaning.{catalogue_of};
 ghost use Rattle.s3_row_steps.specs.Steps.{AreKept};
@@ -20,21 +20,24 @@ use std::alloc::Global;
 pub struct Found {
     /// A rowid above those of all rows.
     pub next: i64,
-    /// The number of the next entry, above those of the entries that made what was found.
+    /// The number of the next entry, above those of the entries that made what was found, or began it.
     pub number: u64,
     /// The numbers of the bodies that rows name, each as often as rows name it.
     pub bodies: Vec<u64>,
 }
 
-/// Puts the rows that were found into rows that are empty but for the row of the store, and answers what is known of them then. What was
-/// found is moved out.
+/// Puts the rows that were found into rows that are empty but for the row of the store, and answers what is known of them then:
+/// that the catalogue that they are is sound for entries from the next one on. What was found is moved out.
+///
+/// It takes one pass over all rows, and asks for one bucket where it puts a version or an upload.
 ///
 /// # Errors
 ///
-/// `Damaged` where the rows that were found aren't sound: a column out of its range, a row that names one that isn't there, rowids that
-/// don't rise or reach the lowest or highest integer, not just one row of the store, or a number that the next entry's isn't above.
-/// `LaterForm` where the form of the tables is above 1. Else `NoMemory`, which comes too where a row stands where another one does: the
-/// keeper of the rows doesn't tell these apart. An error may leave some of the rows.
+/// `Damaged` where the rows that were found aren't sound: a column out of its range, a row that names one that isn't there,
+/// rowids that don't rise or reach the lowest or highest integer, not just one row of the store, a number of a version or an id
+/// of an upload that the next entry's number isn't above, or a version that isn't `null` in a bucket whose versioning was never
+/// set. `LaterForm` where the form of the tables is above 1. Else `NoMemory`, which comes too where a row stands where another
+/// one does: the keeper of the rows doesn't tell these apart. An error may leave some of the rows.
 pub fn load<R: StoredRows>(
     alloc: Global,
     found: &mut FoundTables,
@@ -43,7 +46,7 @@ pub fn load<R: StoredRows>(
     requires { (store : StoreColumns) × (store.row ≡ pos 1) × (R.tables rows.old ≡ record no_rows { store = store ∷ [] }) }
     ensures kept { IfOk result (λ found. AreKept found.next (R.tables rows.new)) }
     ensures named { IfOk result (λ found. (n : ℕ) → times n found.bodies.items ≡ times n (numbers_named (R.tables rows.new))) }
-    ensures below { IfOk result (λ found. (contents : Contents) → AreBelow found.number (catalogue_of (encoding contents) (R.tables rows.new))) }
+    ensures sound { IfOk result (λ found. (contents : Contents) → IsSoundCatalogue (catalogue_of (encoding contents) (R.tables rows.new)) found.number) }
     ensures store { IfOk result (λ found. (store : StoreColumns) × (store.row ≡ pos 1) × (store.number ≡ pos found.number) × ((R.tables rows.new).store ≡ store ∷ [])) }
     ensures same { IfOk result (λ _. R.tables rows.new ≡ tables_of found.old) }
 {

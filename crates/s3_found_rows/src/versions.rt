@@ -1,17 +1,21 @@
 //! The versions that were found.
-ghost use Rattle.std.specs.Prelude.{◌≡◌, ◌<ℤ◌, [], ◌∷◌, ◌++◌, ◌||◌, map, pos, IsTrue, IfOk, OnOk};
+ghost use Rattle.std.specs.Prelude.{◌≡◌, ◌<ℤ◌, [], ◌∷◌, ◌++◌, ◌||◌, map, pos, find, Some, IsTrue, IfOk, OnOk};
 ghost use Rattle.std.specs.List.{flat_map};
 ghost use Rattle.std.specs.Ordering.{int_eq};
+ghost use Rattle.s3_rows.specs.Finding.{is_named};
 ghost use Rattle.s3_rows.specs.Soundness.{version_row, is_version_row, has_own_id};
 ghost use Rattle.s3_stored_rows.specs.Bodies.{version_numbers};
-ghost use Rattle.s3_stored_rows.specs.Changes.{version_columns};
-ghost use Rattle.s3_found_rows.specs.Fitting.{version_fits};
+ghost use Rattle.s3_stored_rows.specs.Changes.{bucket_columns, version_columns};
+ghost use Rattle.s3_found_rows.specs.Fitting.{may_have, version_fits};
 ghost use Rattle.s3_found_rows.specs.Order.{IsFilled};
 
-use crate::naming::{has_bucket, is_count, reversed, take_numbers};
+use crate::naming::{is_count, reversed, take_numbers};
 use s3_storage::StorageFault;
-use s3_stored_rows::{Change, StoredRows, StoredVersion};
+use s3_stored_rows::{Change, StoredBucket, StoredRows, StoredVersion};
 use std::alloc::Global;
+
+/// What stands in the column of the versioning of a bucket where it was never set.
+const UNVERSIONED: i64 = 0;
 
 /// What stands in the column of the id of the version `null`.
 const NULL_ID: i64 = -1;
@@ -77,10 +81,28 @@ fn check_version<R: StoredRows>(
     if !is_version_sound(version) {
         return Err(StorageFault::Damaged);
     }
-    if !has_bucket(rows, &version.bucket)? {
+    if !has_place(rows, version)? {
         return Err(StorageFault::Damaged);
     }
     Ok(())
+}
+
+// Whether the bucket of a version is there, and may have it.
+fn has_place<R: StoredRows>(rows: &mut R, version: &StoredVersion) -> Result<bool, StorageFault>
+    ensures value { IfOk result (λ has. has ≡ may_have (find (is_named version.now.bucket.items) (R.tables rows.old).buckets) (version_columns version.now)) }
+    ensures same { R.tables rows.new ≡ R.tables rows.old }
+{
+    match rows.bucket(&version.bucket)? {
+        Some(bucket) => Ok(may_have(&bucket, version)),
+        None => Ok(false),
+    }
+}
+
+// Whether a bucket may have a version: one whose versioning was never set has those alone whose id is that of `null`.
+fn may_have(bucket: &StoredBucket, version: &StoredVersion) -> bool
+    ensures { result ≡ may_have (Some (bucket_columns bucket.now)) (version_columns version.now) }
+{
+    bucket.mode != UNVERSIONED || version.id == NULL_ID
 }
 
 // Whether the integers of a version are in range.

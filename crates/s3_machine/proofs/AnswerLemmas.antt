@@ -9,7 +9,7 @@ use Rattle.s3_names.specs.declared.ids.VersionId.{VersionId}
 use Rattle.s3_bodies.specs.Payload.{tag_of}
 use Rattle.s3_conditions.specs.declared.conditions.Conditions.{Conditions}
 use Rattle.s3_conditions.specs.declared.conditions.Selection.{Selection}
-use Rattle.s3_conditions.specs.declared.conditions.Selection.TheVariants.{Whole}
+use Rattle.s3_conditions.specs.declared.conditions.Selection.TheVariants.{Whole, Part, Unchanged, Outside}
 use Rattle.s3_conditions.specs.Conditions.{plain, judged as judged_by}
 use Rattle.s3_versions.specs.declared.picking.Refusal.{Refusal}
 use Rattle.s3_versions.specs.declared.version.Content.TheVariants.{DeleteMarker}
@@ -17,6 +17,7 @@ use Rattle.s3_versions.specs.declared.version.Data.{Data}
 use Rattle.s3_versions.specs.declared.version.Version.{Version}
 use Rattle.s3_versions.specs.declared.version.Versioning.{Versioning}
 use Rattle.s3_versions.specs.declared.version.Versioning.TheVariants.{Unversioned, Enabled, Suspended}
+use Rattle.s3_versions.specs.Metadata.{Entry as MetadataEntry}
 use Rattle.s3_versions.specs.Rules.{made, new_id, pick, facts_of, asked_for, judged, current, after_delete, KeyDeleted}
 use Rattle.s3_versions.specs.Laws as versions
 use Rattle.s3_uploads.specs.Completion.{parts_listed, joined_data}
@@ -35,14 +36,15 @@ use Rattle.s3_machine.specs.declared.command.ObjectCopy.{ObjectCopy}
 use Rattle.s3_machine.specs.declared.command.Source.{Source as CopySource}
 use Rattle.s3_machine.specs.declared.command.Outcome.TheVariants as outcomes
 use Rattle.s3_machine.specs.declared.command.WriteCondition.{WriteCondition}
+use Rattle.s3_machine.specs.declared.command.WriteCondition.TheVariants as write_conditions
 use Rattle.s3_machine.specs.declared.rules.Rules.{Rules}
 use Rattle.s3_terms.specs.Fault.{◌>>◌, ◌>>=◌}
 use Rattle.s3_machine.specs.Fault.{refuse, as_refusal}
-use Rattle.s3_machine.specs.Effects.{Address, Object, UploadPlace, Read, place_of, open_at, upload_stored, joined_at, writes, copies, completes, source_read, brought, brings, object_of, stored_by, whole, read_at, reads, given_whole, is_refused, succeeds, shown_as, by_conditions}
+use Rattle.s3_machine.specs.Effects.{Address, Object, UploadPlace, Read, place_of, open_at, upload_stored, joined_at, writes, hides, copies, completes, source_read, brought, brings, object_of, stored_by, whole, read_at, reads, overrides_of, said_of, given_whole, is_refused, succeeds, shown_as, by_conditions}
 use Rattle.s3_machine.specs.History.{Entry, IsAnswer, after, after_entry}
-use Rattle.s3_machine.specs.Kept.{SparesVersion, ReadsVersion, Stores, Copies, WouldGive, WouldMake, Source, Put, Copy, Completion, Marks, EveryHistory, StoredIsKept, VersionsAreKept, StoredIsTold, ReadsGiveOrFail, MarkersHide, QuietEntriesChangeNothing, PutsAreKept, PutVersionsAreKept, CopiesAreKept, CopyVersionsAreKept, BodiesAreTagged, PutsStoreTheirContents, CopiesStoreTheirSource, CompletionsStoreTheirParts, StoredHasSource}
+use Rattle.s3_machine.specs.Kept.{SparesVersion, ReadsVersion, Stores, Copies, WouldGive, WouldMake, Source, Put, Copy, Completion, Marks, EveryHistory, StoredIsKept, VersionsAreKept, StoredIsTold, ReadsGiveOrFail, RepliesSayWhatIsAsked, MarkersHide, QuietEntriesChangeNothing, PutsAreKept, PutVersionsAreKept, CopiesAreKept, CopyVersionsAreKept, BodiesAreTagged, PutsStoreTheirContents, CopiesStoreTheirSource, CompletionsStoreTheirParts, StoredHasSource}
 use Rattle.s3_machine.specs.Laws.{QuietStepsChangeNothing, ConditionsJudgeReads}
-use Rattle.s3_machine.specs.Step.{State, Stepped, read_for_copy, shows_all, may_be_copied, source_found, described, copied, data_of, shown_in, makes_marker, found_in, outcome_shown, shown_by, key_done, done, stepped, step}
+use Rattle.s3_machine.specs.Step.{State, Stepped, tag_at, is_barred, barred_code, read_for_copy, shows_all, may_be_copied, source_found, described, copied, data_of, shown_in, makes_marker, found_in, outcome_shown, shown_by, delete_step, key_done, done, stepped, step}
 use Rattle.s3_machine.proofs.EffectLemmas.{FollowRules, versions_at, shown, after_line, copy_done}
 use Rattle.s3_machine.proofs.HistoryLemmas.{after-push, parts_of, right_at}
 use Rattle.s3_machine.proofs.KeptLemmas.{outcome_is, picked, got, plain_shown, step_reads, stored_there, stored_writes, key_left}
@@ -51,12 +53,12 @@ use Rattle.s3_machine.proofs.KeptLemmas.{outcome_is, picked, got, plain_shown, s
 abbrev GivesOrRefuses : Stepped → Type 0
 GivesOrRefuses st = is_some (given_whole st.1) ≡ succeeds st.1
 
-gives_or_refuses : (s : State) (name : List ℕ) (conditions : Conditions) (read : Result (Version (List ℕ) × Data (List ℕ)) Refusal) → conditions ≡ plain
-    → GivesOrRefuses (stepped s (read >>= shown s name conditions))
-gives_or_refuses s name conditions (Ok read) is =
-    let P : Result Selection Refusal → Type 0 = λ chosen. GivesOrRefuses (stepped s (chosen >>= (λ selection. Ok (s, outcome_shown (found_in (versioning_of s name) read) selection)))) in
+gives_or_refuses : (s : State) (name : List ℕ) (conditions : Conditions) (overrides : List MetadataEntry) (read : Result (Version (List ℕ) × Data (List ℕ)) Refusal) → conditions ≡ plain
+    → GivesOrRefuses (stepped s (read >>= shown s name conditions overrides))
+gives_or_refuses s name conditions overrides (Ok read) is =
+    let P : Result Selection Refusal → Type 0 = λ chosen. GivesOrRefuses (stepped s (chosen >>= (λ selection. Ok (s, outcome_shown (found_in (versioning_of s name) read) overrides selection)))) in
     subst P (sym (ap (λ (c : Conditions). shown_by c (facts_of read)) is ∙ plain_shown (facts_of read))) refl
-gives_or_refuses s name conditions (Err refusal) is = refl
+gives_or_refuses s name conditions overrides (Err refusal) is = refl
 
 step_gives_or_refuses : (rules : Rules) (s : State) (n t : ℕ) (command : Command) (a : Address) (version : Option VersionId)
     → reads command ≡ Some (whole a version) → GivesOrRefuses (step rules s n t command)
@@ -64,7 +66,7 @@ unfolding done key_done
 step_gives_or_refuses rules s n t (commands.Key name key (key_commands.Read asked)) a version is =
     let same : read_at (record { bucket = name; key = key }) asked ≡ whole a version = cc in
     after_line GivesOrRefuses s (not (has_bucket s name)) NoSuchBucket (key_done s n t name key (key_commands.Read asked)) refl
-    (λ there. gives_or_refuses s name asked.conditions (pick asked.version (versions_of s name key)) (ap (λ (q : Read). q.conditions) same))
+    (λ there. gives_or_refuses s name asked.conditions asked.overrides (pick asked.version (versions_of s name key)) (ap (λ (q : Read). q.conditions) same))
 step_gives_or_refuses rules s n t _ a version is = absurd (cc)
 
 pub reads_give_or_fail : EveryHistory ReadsGiveOrFail
@@ -91,20 +93,59 @@ behind_line : (s : State) (conditions : Conditions) (fault : Bool) (next plainly
 behind_line s conditions true next plainly is = refl
 behind_line s conditions false next plainly is = is
 
-read_judged : (s : State) (name : List ℕ) (conditions : Conditions) (read : Result (Version (List ℕ) × Data (List ℕ)) Refusal)
-    → picked s name conditions read ≡ by_conditions conditions (picked s name plain read)
-read_judged s name conditions (Ok read) =
-    ap (λ (r : Result Selection Refusal). by_conditions conditions (shown_as (found_in (versioning_of s name) read) r)) (sym (plain_shown (facts_of read)))
-read_judged s name conditions (Err refusal) = refl
+read_judged : (s : State) (name : List ℕ) (conditions : Conditions) (overrides : List MetadataEntry)
+    (read : Result (Version (List ℕ) × Data (List ℕ)) Refusal)
+    → picked s name conditions overrides read ≡ by_conditions conditions (picked s name plain overrides read)
+read_judged s name conditions overrides (Ok read) =
+    ap (λ (r : Result Selection Refusal). by_conditions conditions (shown_as (found_in (versioning_of s name) read) overrides r))
+    (sym (plain_shown (facts_of read)))
+read_judged s name conditions overrides (Err refusal) = refl
 
 pub conditions_judge_reads : ConditionsJudgeReads
 unfolding done key_done
-conditions_judge_reads rules s n t name key version conditions =
+conditions_judge_reads rules s n t name key version conditions overrides =
     let read = pick version (versions_of s name key) in
     behind_line s conditions (not (has_bucket s name))
-    (key_done s n t name key (key_commands.Read (record { version = version; conditions = conditions })))
-    (key_done s n t name key (key_commands.Read (record { version = version; conditions = plain })))
-    (got s name conditions read ∙ read_judged s name conditions read ∙ ap (by_conditions conditions) (sym (got s name plain read)))
+    (key_done s n t name key (key_commands.Read (record { version = version; conditions = conditions; overrides = overrides })))
+    (key_done s n t name key (key_commands.Read (record { version = version; conditions = plain; overrides = overrides })))
+    (got s name conditions overrides read
+    ∙ read_judged s name conditions overrides read
+    ∙ ap (by_conditions conditions) (sym (got s name plain overrides read)))
+
+-- of a version that is handed out the reply says what was asked for
+abbrev Says : List MetadataEntry → Stepped → Type 0
+Says overrides st =
+    (found : Found (List ℕ)) (selection : Selection) (said : List MetadataEntry) → st.1 ≡ outcomes.Got found selection said → said ≡ overrides
+
+shown_says : (s : State) (found : Found (List ℕ)) (overrides : List MetadataEntry) (selection : Result Selection Refusal)
+    → Says overrides (stepped s (selection >>= (λ chosen. Ok (s, outcome_shown found overrides chosen))))
+shown_says s found overrides (Ok Whole) _ selection said is = sym (ap said_of is)
+shown_says s found overrides (Ok (Part first last)) _ selection said is = sym (ap said_of is)
+shown_says s found overrides (Ok Unchanged) _ selection said is = sym (ap said_of is)
+shown_says s found overrides (Ok Outside) _ selection said is = absurd (cc)
+shown_says s found overrides (Err refusal) _ selection said is = absurd (cc)
+
+read_says : (s : State) (name : List ℕ) (conditions : Conditions) (overrides : List MetadataEntry)
+    (read : Result (Version (List ℕ) × Data (List ℕ)) Refusal)
+    → Says overrides (stepped s (read >>= shown s name conditions overrides))
+read_says s name conditions overrides (Ok read) =
+    shown_says s (found_in (versioning_of s name) read) overrides (shown_by conditions (facts_of read))
+read_says s name conditions overrides (Err refusal) = λ found selection said is. absurd (cc)
+
+step_says : (rules : Rules) (s : State) (n t : ℕ) (command : Command) (asked : Read)
+    → reads command ≡ Some asked → Says (overrides_of command) (step rules s n t command)
+unfolding done key_done
+step_says rules s n t (commands.Key name key (key_commands.Read asked)) wanted is =
+    after_line (Says asked.overrides) s (not (has_bucket s name)) NoSuchBucket (key_done s n t name key (key_commands.Read asked))
+    (λ found selection said none. absurd (cc))
+    (λ there. read_says s name asked.conditions asked.overrides (pick asked.version (versions_of s name key)))
+step_says rules s n t _ wanted is = absurd (cc)
+
+pub replies_say_what_is_asked : EveryHistory RepliesSayWhatIsAsked
+replies_say_what_is_asked rules s n entries legal before later read asked found selection overrides parts is got =
+    let there = after rules s before in
+    let outcome = outcome_is rules there _ read (right_at rules s n entries before later read legal parts) in
+    step_says rules there read.answer.number read.moment read.command asked is found selection overrides (sym outcome ∙ got)
 
 -- ---- puts
 
@@ -173,8 +214,8 @@ would_give s source found is =
       found = found;
       gives = λ rules n t command reading.
           ap given_whole (step_reads rules s n t command (source_read source) first.0 reading first.1)
-          ∙ ap (λ (r : Result (Version (List ℕ) × Data (List ℕ)) Refusal). given_whole (picked s source.bucket source.conditions r)) by.is
-          ∙ ap (λ (r : Result Selection Refusal). given_whole (shown_as (found_in (versioning_of s source.bucket) by.picks) r)) shown
+          ∙ ap (λ (r : Result (Version (List ℕ) × Data (List ℕ)) Refusal). given_whole (picked s source.bucket source.conditions (overrides_of command) r)) by.is
+          ∙ ap (λ (r : Result Selection Refusal). given_whole (shown_as (found_in (versioning_of s source.bucket) by.picks) (overrides_of command) r)) shown
           ∙ ap Some by.holds;
       holds = refl;
     }
@@ -401,24 +442,42 @@ hidden_by hide s a Suspended n t vs id is shown =
 told_shown : (b : Versioning) (n : ℕ) (id : VersionId) → outcomes.Deleted (shown_in b (new_id b n)) (makes_marker b) ≡ outcomes.Deleted (Some id) true → shown_in b (new_id b n) ≡ Some id
 told_shown b n id is = cc
 
--- a delete that makes a marker hides
-step_marks : versions.MarkersHide (List ℕ) → ChangesFollowRules (List ℕ) → (rules : Rules) (s : State) (n t : ℕ) (a : Address) (id : VersionId)
-    → (step rules s n t (commands.Key a.bucket a.key (key_commands.Delete None))).1 ≡ outcomes.Deleted (Some id) true
-    → IsHidden (step rules s n t (commands.Key a.bucket a.key (key_commands.Delete None))).0 a
-unfolding done key_done
-step_marks hide follow rules s n t a id is =
-    after_line (λ st. st.1 ≡ outcomes.Deleted (Some id) true → IsHidden st.0 a) s (not (has_bucket s a.bucket)) NoSuchBucket (key_done s n t a.bucket a.key (key_commands.Delete None))
-    (λ none. absurd (cc))
-    (λ there marked. hidden_by hide _ a (versioning_of s a.bucket) n t (versions_at s a) id (follow s a.bucket a.key (KeyDeleted n t) (not-false (has_bucket s a.bucket) there)) (told_shown (versioning_of s a.bucket) n id marked))
-    is
+-- where a marker is told, the key is hidden
+abbrev HidesWhere : Address → VersionId → Stepped → Type 0
+HidesWhere a id st = st.1 ≡ outcomes.Deleted (Some id) true → IsHidden st.0 a
+
+module _ (hide : versions.MarkersHide (List ℕ)) (follow : ChangesFollowRules (List ℕ)) where
+  deletion_marks : (s : State) (n t : ℕ) (name key : List ℕ) (id : VersionId) → not (has_bucket s name) ≡ false
+      → HidesWhere (record { bucket = name; key = key }) id (delete_step s n t name key)
+  deletion_marks s n t name key id there marked =
+      hidden_by hide _ (record { bucket = name; key = key }) (versioning_of s name) n t (versions_of s name key) id
+      (follow s name key (KeyDeleted n t) (not-false (has_bucket s name) there)) (told_shown (versioning_of s name) n id marked)
+
+  -- a delete that makes a marker hides
+  step_marks : (rules : Rules) (s : State) (n t : ℕ) (command : Command) (a : Address) (id : VersionId) → hides command ≡ Some a
+      → HidesWhere a id (step rules s n t command)
+  unfolding done key_done
+  step_marks rules s n t (commands.Key name key (key_commands.Delete None)) a id deletes =
+      let same = same_Some (record { bucket = name; key = key }) a deletes in
+      subst (λ (b : Address). HidesWhere b id (step rules s n t (commands.Key name key (key_commands.Delete None)))) same
+      (after_line (HidesWhere (record { bucket = name; key = key }) id) s (not (has_bucket s name)) NoSuchBucket
+      (key_done s n t name key (key_commands.Delete None)) (λ refused. absurd (cc))
+      (λ there. deletion_marks s n t name key id there))
+  step_marks rules s n t (commands.Key name key (key_commands.DeleteMatching tags)) a id deletes =
+      let same = same_Some (record { bucket = name; key = key }) a deletes in
+      subst (λ (b : Address). HidesWhere b id (step rules s n t (commands.Key name key (key_commands.DeleteMatching tags)))) same
+      (after_line (HidesWhere (record { bucket = name; key = key }) id) s (not (has_bucket s name)) NoSuchBucket
+      (key_done s n t name key (key_commands.DeleteMatching tags)) (λ refused. absurd (cc))
+      (λ there. after_line (HidesWhere (record { bucket = name; key = key }) id)
+      s (is_barred (write_conditions.IfMatch tags) (tag_at s name key)) (barred_code (tag_at s name key)) _ (λ refused. absurd (cc))
+      (λ met. deletion_marks s n t name key id there)))
+  step_marks rules s n t _ a id deletes = absurd (cc)
 
 module _ (places : ChangesAreByPlace (List ℕ)) (follow : FollowRules) (hide : versions.MarkersHide (List ℕ)) where
   entry_marks : (rules : Rules) (s : State) (n : ℕ) (e : Entry) (a : Address) → IsAnswer rules s n e → Marks a e → IsHidden (after_entry rules s e) a
   entry_marks rules s n e a answer marks =
-      let deletes = commands.Key a.bucket a.key (key_commands.Delete None) in
-      let outcome = ap (λ c. (step rules s e.answer.number e.moment c).1) (sym marks.deletes) ∙ sym (outcome_is rules s n e answer) ∙ marks.marked in
-      subst (λ c. IsHidden (step rules s e.answer.number e.moment c).0 a) (sym marks.deletes)
-      (step_marks hide follow.keys rules s e.answer.number e.moment a marks.id outcome)
+      step_marks hide follow.keys rules s e.answer.number e.moment e.command a marks.id marks.deletes
+      (sym (outcome_is rules s n e answer) ∙ marks.marked)
 
   pub markers_hide : EveryHistory MarkersHide
   markers_hide rules s n entries legal before between later mark read address parts marks leaves reads =
@@ -430,4 +489,4 @@ module _ (places : ChangesAreByPlace (List ℕ)) (follow : FollowRules) (hide : 
       outcome_is rules there at.j read at.right_last
       ∙ step_reads rules there read.answer.number read.moment read.command _ hidden.marker reads.read
       (ap current left ∙ hidden.is_current)
-      ∙ ap (picked there address.bucket reads.conditions) (ap (pick None) left ∙ hidden.told)
+      ∙ ap (picked there address.bucket reads.conditions (overrides_of read.command)) (ap (pick None) left ∙ hidden.told)

@@ -1,6 +1,6 @@
 -- What is stored was put once, or joined once by a completion, or stood at the beginning, however often it was copied; but for what
 -- a copy said of it.
-use Rattle.std.proofs.Common.{◌≡◌, refl, sym, ap, subst, ◌∙◌, arith, ◌⊎◌, ⊎_elim, inl, inr, ℕ, zero, suc, ◌≤◌, ◌+◌, List, ◌∷◌, ◌++◌, append_assoc, length, length-append, Option, Some, None}
+use Rattle.std.proofs.Common.{◌≡◌, refl, sym, ap, subst, ◌∙◌, arith, ◌⊎◌, ⊎_elim, inl, inr, ℕ, zero, suc, ◌≤◌, ◌+◌, List, ◌∷◌, ◌++◌, append_assoc, length, length-append, Option, Some, None, []}
 use Rattle.std.proofs.lemmas.Option.{same_Some}
 use Rattle.s3_versions.specs.Laws.{IdsAreTold}
 use Rattle.s3_versions.specs.declared.version.Data.{Data}
@@ -14,7 +14,7 @@ use Rattle.s3_machine.specs.declared.command.Outcome.{Outcome}
 use Rattle.s3_machine.specs.declared.command.Outcome.TheVariants as outcomes
 use Rattle.s3_machine.specs.declared.rules.Rules.{Rules}
 use Rattle.s3_conditions.specs.declared.conditions.Selection.TheVariants.{Whole}
-use Rattle.s3_machine.specs.Bases.{IsSound, EverySoundHistory}
+use Rattle.s3_machine.specs.Bases.{IsSoundBase, EverySoundHistory}
 use Rattle.s3_machine.specs.Effects.{Address, Object, Read, object_of, reads, given, given_whole, found_object}
 use Rattle.s3_machine.specs.History.{Entry, Legal, after}
 use Rattle.s3_machine.specs.Kept.{Stores, WasStored, Stayed, Stood, Copies, WasPut, WasDescribed, Source, Put, Copy, Completion, EveryHistory, StoredWasBrought}
@@ -29,7 +29,9 @@ use Rattle.s3_machine.proofs.StateLemmas.{Numbers}
 
 -- a command that reads this
 read_of : Read → Command
-read_of asked = commands.Key asked.address.bucket asked.address.key (key_commands.Read (record { version = asked.version; conditions = asked.conditions }))
+read_of asked =
+    commands.Key asked.address.bucket asked.address.key
+    (key_commands.Read (record { version = asked.version; conditions = asked.conditions; overrides = [] }))
 
 reads_it : (asked : Read) → reads (read_of asked) ≡ Some asked
 unfolding read_of
@@ -37,7 +39,7 @@ reads_it asked = refl
 
 -- what is handed out whole is handed out
 whole_given : (outcome : Outcome) (found : Found (List ℕ)) → given_whole outcome ≡ Some found → given outcome ≡ Some found
-whole_given (outcomes.Got other Whole) found is = is
+whole_given (outcomes.Got other Whole overrides) found is = is
 whole_given _ found is = absurd (cc)
 
 -- what was put before was put
@@ -109,7 +111,7 @@ same_stored s e n t address what object stores others =
     ap (λ (o : Object). o.stored) (same_Some (object_of s n t address what) object (sym others.by ∙ stores.by))
 
 module _ (places : ChangesAreByPlace (List ℕ)) (follow : FollowRules) (numbers : Numbers) (ids : IdsAreTold (List ℕ))
-    (joins : EveryHistory CompletionsJoinWhatWasSent) (rules : Rules) (s : State) (n : ℕ) (sound : IsSound s n) where
+    (joins : EveryHistory CompletionsJoinWhatWasSent) (rules : Rules) (s : State) (n : ℕ) (sound : IsSoundBase s n) where
   -- what a copy stores has the origin of its source
   by_copy : (earlier : List Entry) (object : Object) (was : WasStored rules s earlier object) (asked : Read) (said : Option Description)
       (source : Data (List ℕ))

@@ -183,7 +183,7 @@ pub bucket_here : (c : State) (name : List ℕ) (found : Option (Bucket (List �
 bucket_here c name None = removed_here c name
 bucket_here c name (Some b) = put_here c name b
 
-bucket_other : (c : State) (name : List ℕ) (found : Option (Bucket (List ℕ))) (other : List ℕ) → other ≢ name
+pub bucket_other : (c : State) (name : List ℕ) (found : Option (Bucket (List ℕ))) (other : List ℕ) → other ≢ name
     → map.get (with_bucket c name found) other ≡ map.get c other
 bucket_other c name None other differ = removed_other c name other differ
 bucket_other c name (Some b) other differ = put_other c name b other differ

@@ -45,18 +45,18 @@ use Rattle.s3_machine.proofs.JoinedLemmas.{command_completed}
 use Rattle.s3_machine.proofs.KeptLemmas.{outcome_is, entry_does, entry_stores}
 
 -- who wants no object at an address has the condition, and is of that address
-wanted : (condition : WriteCondition) (a b : Address) → where_absent condition a ≡ Some b → (condition ≡ write_conditions.IfAbsent) × (a ≡ b)
+pub wanted : (condition : WriteCondition) (a b : Address) → where_absent condition a ≡ Some b → (condition ≡ write_conditions.IfAbsent) × (a ≡ b)
 wanted write_conditions.IfAbsent a b is = (refl, cc)
 wanted write_conditions.Unconditional a b is = absurd (cc)
 wanted (write_conditions.IfMatch tags) a b is = absurd (cc)
 
 -- what has a tag is there
-tagged : (found : Option (Data (List ℕ))) → is_some (option_map (λ (what : Data (List ℕ)). what.tag) found) ≡ is_some found
+pub tagged : (found : Option (Data (List ℕ))) → is_some (option_map (λ (what : Data (List ℕ)). what.tag) found) ≡ is_some found
 tagged None = refl
 tagged (Some what) = refl
 
 -- where the condition holds that was made, no object is there, and where it fails, one is
-unmet : (condition : WriteCondition) (s : State) (name key : List ℕ) → condition ≡ write_conditions.IfAbsent
+pub unmet : (condition : WriteCondition) (s : State) (name key : List ℕ) → condition ≡ write_conditions.IfAbsent
     → is_barred condition (tag_at s name key) ≡ is_taken s name key
 unmet condition s name key is =
     ap (λ (c : WriteCondition). is_barred c (tag_at s name key)) is ∙ tagged (option_and_then stored (current (versions_of s name key)))
@@ -317,7 +317,7 @@ one_is_accepted law rules s n entries legal before between later first second ad
 -- ---- what has to match
 
 -- who wants an object with some tags at an address has the condition, and is of that address
-wanted_match : (condition : WriteCondition) (a b : Address) (tags : List ℕ) → where_matching condition a ≡ Some (b, tags)
+pub wanted_match : (condition : WriteCondition) (a b : Address) (tags : List ℕ) → where_matching condition a ≡ Some (b, tags)
     → (condition ≡ write_conditions.IfMatch tags) × (a ≡ b)
 wanted_match (write_conditions.IfMatch asked) a b tags is =
     let same = same_Some (a, asked) (b, tags) is in

@@ -34,7 +34,7 @@ use Rattle.s3_machine.specs.declared.command.Outcome.TheVariants as outcomes
 use Rattle.s3_machine.specs.declared.rules.Rules.{Rules}
 use Rattle.s3_machine.specs.Bases.{EverySoundHistory}
 use Rattle.s3_machine.specs.Deleted.{Deletes, Reaches, TellsMarker, NamedKeysAreGone, NamedVersionsAreGone, OtherVersionsStay, DeletionsAreTold, MarkersAreToldOnce}
-use Rattle.s3_machine.specs.Effects.{Address, deletes, succeeds}
+use Rattle.s3_machine.specs.Effects.{overrides_of, Address, deletes, succeeds}
 use Rattle.s3_machine.specs.Fault.{refuse}
 use Rattle.s3_machine.specs.History.{Entry, IsAnswer, Legal, after, after_entry}
 use Rattle.s3_machine.specs.Kept.{EveryHistory}
@@ -411,4 +411,4 @@ module _ (places : ChangesAreByPlace (List ℕ)) (follow : FollowRules) (numbers
       let is_there = sym (ap (λ (state : State). has_bucket state a.bucket) (after-append rules s before (e ∷ between))) ∙ found in
       outcome_is rules there at.j read at.right_last
       ∙ read_there rules there read.answer.number read.moment read.command _ reads.read is_there
-      ∙ ap (picked there a.bucket reads.conditions) (ap (pick None) left ∙ gone_told b e.answer.number (versions_of (all_deleted here a.bucket e.answer.number e.moment deletion.objects) a.bucket a.key) gone)
+      ∙ ap (picked there a.bucket reads.conditions (overrides_of read.command)) (ap (pick None) left ∙ gone_told b e.answer.number (versions_of (all_deleted here a.bucket e.answer.number e.moment deletion.objects) a.bucket a.key) gone)

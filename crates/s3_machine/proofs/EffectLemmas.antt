@@ -14,6 +14,7 @@ use Rattle.s3_versions.specs.declared.version.Data.{Data}
 use Rattle.s3_versions.specs.declared.version.Version.{Version}
 use Rattle.s3_versions.specs.declared.version.Versioning.{Versioning}
 use Rattle.s3_versions.specs.declared.version.Versioning.TheVariants.{Unversioned, Enabled, Suspended}
+use Rattle.s3_versions.specs.Metadata.{Entry as MetadataEntry}
 use Rattle.s3_versions.specs.Rules.{made, new_id, stored, pick, facts_of, asked_for, KeyChange, VersionPut, KeyDeleted, VersionDropped, after_change}
 use Rattle.s3_versions.specs.Laws.{id_changed, version_made}
 use Rattle.s3_deletions.specs.Deletions.{rows_told}
@@ -194,8 +195,9 @@ part_copying s t name key id number copy found = do
   )
 
 -- what is done with a version that was read
-abbrev pub shown : State → List ℕ → Conditions → Version (List ℕ) × Data (List ℕ) → Result Stepped Refusal
-shown s name conditions read = shown_by conditions (facts_of read) >>= (λ selection. Ok (s, outcome_shown (found_in (versioning_of s name) read) selection))
+abbrev pub shown : State → List ℕ → Conditions → List MetadataEntry → Version (List ℕ) × Data (List ℕ) → Result Stepped Refusal
+shown s name conditions overrides read =
+    shown_by conditions (facts_of read) >>= (λ selection. Ok (s, outcome_shown (found_in (versioning_of s name) read) overrides selection))
 
 -- what a rule is past a line that may refuse, where it doesn't
 let_pass : {A : Type 0} (fault : Bool) (code : Code) (next : Result A Code) (a : A) → (faults.refuse fault code >> next) ≡ Ok a → next ≡ Ok a
@@ -261,9 +263,11 @@ module _ (places : ChangesAreByPlace (List ℕ)) (follow : FollowRules) where
   showing s n t command (Ok found) out none = unwritten s n t command none
   showing s n t command (Err refusal) out none = unwritten s n t command none
 
-  reading : (s : State) (n t : ℕ) (command : Command) (read : Result (Version (List ℕ) × Data (List ℕ)) Refusal) (name : List ℕ) (conditions : Conditions) → writes command ≡ [] → Does s n t command (stepped s (read >>= shown s name conditions))
-  reading s n t command (Ok r) name conditions none = showing s n t command (shown_by conditions (facts_of r)) (outcome_shown (found_in (versioning_of s name) r)) none
-  reading s n t command (Err refusal) name conditions none = unwritten s n t command none
+  reading : (s : State) (n t : ℕ) (command : Command) (read : Result (Version (List ℕ) × Data (List ℕ)) Refusal) (name : List ℕ) (conditions : Conditions)
+      (overrides : List MetadataEntry) → writes command ≡ [] → Does s n t command (stepped s (read >>= shown s name conditions overrides))
+  reading s n t command (Ok r) name conditions overrides none =
+      showing s n t command (shown_by conditions (facts_of r)) (outcome_shown (found_in (versioning_of s name) r) overrides) none
+  reading s n t command (Err refusal) name conditions overrides none = unwritten s n t command none
 
   -- a command changes the versions of one id under a key, as entry n
   writing : (s : State) (n t : ℕ) (name key : List ℕ) (command : Command) (change : Change (List ℕ)) (what : KeyChange (List ℕ))
@@ -379,7 +383,7 @@ module _ (places : ChangesAreByPlace (List ℕ)) (follow : FollowRules) where
       (untouched s n t (commands.Key name key (key_commands.Put put)) _ (λ a written. refl))
       (λ free. puts s n t name key (commands.Key name key (key_commands.Put put)) (data_of put) _ there refl refl refl refl refl refl)
   key_does s n t name key (key_commands.Read asked) there =
-      reading s n t (commands.Key name key (key_commands.Read asked)) (pick asked.version (versions_of s name key)) name asked.conditions refl
+      reading s n t (commands.Key name key (key_commands.Read asked)) (pick asked.version (versions_of s name key)) name asked.conditions asked.overrides refl
   key_does s n t name key (key_commands.ReadTags version) there =
       showing s n t (commands.Key name key (key_commands.ReadTags version)) (pick version (versions_of s name key)) _ refl
   key_does s n t name key (key_commands.Delete None) there =

@@ -113,7 +113,7 @@ parts_from rules s past upload u listed (inl course) sent =
 parts_from rules s past upload u listed (inr stay) sent =
     FromBase stay.stayed
     (all_listed u.parts (IsListedOrStayed rules s past upload)
-    (λ part p there tag. record { last = stay.parts part.number p there; tagged = tag }) listed sent)
+    (λ part p there tag. record { last = stay.parts part.number p there; tag = tag }) listed sent)
 
 -- there are as many parts as are listed
 made_long : (parts : PartList (List ℕ)) (listed : List ListedPart) → length (parts_made parts listed) ≡ length listed

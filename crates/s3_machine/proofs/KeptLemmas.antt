@@ -15,6 +15,7 @@ use Rattle.s3_versions.specs.declared.version.Content.TheVariants.{Stored}
 use Rattle.s3_versions.specs.declared.version.Data.{Data}
 use Rattle.s3_versions.specs.declared.version.Version.{Version}
 use Rattle.s3_versions.specs.declared.version.Versioning.{Versioning}
+use Rattle.s3_versions.specs.Metadata.{Entry as MetadataEntry}
 use Rattle.s3_versions.specs.Rules.{made, pick, facts_of, asked_for, judged, VersionPut, after_change}
 use Rattle.s3_versions.specs.Laws.{PutsAreCurrent}
 use Rattle.s3_records.specs.Catalogue.{Bucket, has_bucket, versions_in, versions_of, versioning_of}
@@ -30,7 +31,7 @@ use Rattle.s3_machine.specs.declared.command.Outcome.TheVariants as outcomes
 use Rattle.s3_machine.specs.declared.rules.Rules.{Rules}
 use Rattle.s3_terms.specs.Fault.{◌>>◌, ◌>>=◌}
 use Rattle.s3_machine.specs.Fault.{refuse}
-use Rattle.s3_machine.specs.Effects.{Address, Object, Read, writes, object_of, key_stored, stored_at, place_of, open_at, upload_stored, stored_by, whole, read_at, reads, given_whole, shown_as, acknowledged, touched, succeeds}
+use Rattle.s3_machine.specs.Effects.{Address, Object, Read, writes, object_of, key_stored, stored_at, place_of, open_at, upload_stored, stored_by, whole, read_at, reads, overrides_of, given_whole, shown_as, acknowledged, touched, succeeds}
 use Rattle.s3_machine.specs.History.{Entry, IsAnswer, Legal, after, after_entry}
 use Rattle.s3_machine.specs.Kept.{Leaves, LeavesKey, Spares, SparesVersion, Stores, Tells, IsGiven, EveryHistory, StoredIsKept, VersionsAreKept, StoredIsTold}
 use Rattle.s3_machine.specs.Step.{State, Stepped, found_in, outcome_shown, shown_by, key_done, done, stepped, step}
@@ -44,9 +45,10 @@ outcome_is rules s n e answer =
     ap (λ a. a.outcome) answer ∙ sym (ap (λ a. (step rules s a.number e.moment e.command).1) answer)
 
 -- what a read of a bucket that is there is answered
-abbrev pub picked : State → List ℕ → Conditions → Result (Version (List ℕ) × Data (List ℕ)) Refusal → Outcome
-picked s name conditions (Ok read) = shown_as (found_in (versioning_of s name) read) (shown_by conditions (facts_of read))
-picked s name conditions (Err refusal) = outcomes.Refused refusal.code refusal.is_delete_marker
+abbrev pub picked : State → List ℕ → Conditions → List MetadataEntry → Result (Version (List ℕ) × Data (List ℕ)) Refusal → Outcome
+picked s name conditions overrides (Ok read) =
+    shown_as (found_in (versioning_of s name) read) overrides (shown_by conditions (facts_of read))
+picked s name conditions overrides (Err refusal) = outcomes.Refused refusal.code refusal.is_delete_marker
 
 none_found : (found : Option (Bucket (List ℕ))) (key : List ℕ) (v : Version (List ℕ)) (vs : List (Version (List ℕ))) → versions_in found key ≡ v ∷ vs → is_some found ≡ true
 none_found None key v vs is = absurd (cc)
@@ -61,13 +63,16 @@ some_first None [] v is = absurd (cc)
 some_first (Some id) [] v is = absurd (cc)
 some_first asked (first ∷ rest) v is = (first, rest, refl)
 
-shows : (s : State) (found : Found (List ℕ)) (selection : Result Selection Refusal) → (stepped s (selection >>= (λ chosen. Ok (s, outcome_shown found chosen)))).1 ≡ shown_as found selection
-shows s found (Ok selection) = refl
-shows s found (Err refusal) = refl
+shows : (s : State) (found : Found (List ℕ)) (overrides : List MetadataEntry) (selection : Result Selection Refusal)
+    → (stepped s (selection >>= (λ chosen. Ok (s, outcome_shown found overrides chosen)))).1 ≡ shown_as found overrides selection
+shows s found overrides (Ok selection) = refl
+shows s found overrides (Err refusal) = refl
 
-pub got : (s : State) (name : List ℕ) (conditions : Conditions) (read : Result (Version (List ℕ) × Data (List ℕ)) Refusal) → (stepped s (read >>= shown s name conditions)).1 ≡ picked s name conditions read
-got s name conditions (Ok read) = shows s (found_in (versioning_of s name) read) (shown_by conditions (facts_of read))
-got s name conditions (Err refusal) = refl
+pub got : (s : State) (name : List ℕ) (conditions : Conditions) (overrides : List MetadataEntry)
+    (read : Result (Version (List ℕ) × Data (List ℕ)) Refusal)
+    → (stepped s (read >>= shown s name conditions overrides)).1 ≡ picked s name conditions overrides read
+got s name conditions overrides (Ok read) = shows s (found_in (versioning_of s name) read) overrides (shown_by conditions (facts_of read))
+got s name conditions overrides (Err refusal) = refl
 
 -- who asks nothing is shown all
 pub plain_shown : (facts : Facts) → shown_by plain facts ≡ Ok Whole
@@ -81,20 +86,22 @@ past_line s true next is = absurd (false≢true (sym is))
 -- a read is answered what is picked, by its conditions, where the bucket is there
 pub read_there : (rules : Rules) (s : State) (n t : ℕ) (command : Command) (wanted : Read)
     → reads command ≡ Some wanted → has_bucket s wanted.address.bucket ≡ true
-    → (step rules s n t command).1 ≡ picked s wanted.address.bucket wanted.conditions (pick wanted.version (versions_at s wanted.address))
+    → (step rules s n t command).1
+    ≡ picked s wanted.address.bucket wanted.conditions (overrides_of command) (pick wanted.version (versions_at s wanted.address))
 unfolding done key_done
 read_there rules s n t (commands.Key name key (key_commands.Read asked)) wanted is found =
     let same : read_at (record { bucket = name; key = key }) asked ≡ wanted = cc in
     let there = ap (λ (q : Read). has_bucket s q.address.bucket) same ∙ found in
     ap (λ (st : Stepped). st.1) (past_line s (not (has_bucket s name)) (key_done s n t name key (key_commands.Read asked)) (ap not there))
-    ∙ got s name asked.conditions (pick asked.version (versions_of s name key))
-    ∙ ap (λ (q : Read). picked s q.address.bucket q.conditions (pick q.version (versions_at s q.address))) same
+    ∙ got s name asked.conditions asked.overrides (pick asked.version (versions_of s name key))
+    ∙ ap (λ (q : Read). picked s q.address.bucket q.conditions asked.overrides (pick q.version (versions_at s q.address))) same
 read_there rules s n t _ wanted is found = absurd (cc)
 
 -- so it is where there is a version at all
 pub step_reads : (rules : Rules) (s : State) (n t : ℕ) (command : Command) (wanted : Read) (v : Version (List ℕ))
     → reads command ≡ Some wanted → asked_for wanted.version (versions_at s wanted.address) ≡ Some v
-    → (step rules s n t command).1 ≡ picked s wanted.address.bucket wanted.conditions (pick wanted.version (versions_at s wanted.address))
+    → (step rules s n t command).1
+    ≡ picked s wanted.address.bucket wanted.conditions (overrides_of command) (pick wanted.version (versions_at s wanted.address))
 step_reads rules s n t command wanted v is found =
     let first = some_first wanted.version (versions_at s wanted.address) v found in
     read_there rules s n t command wanted is (there_with s wanted.address first.0 first.1 first.2)
@@ -145,17 +152,18 @@ module _ (places : ChangesAreByPlace (List ℕ)) (follow : FollowRules) (rules :
       version_spared (after_entry rules s e) _ es a id legal.1 spares.1 ∙ version_left s n e a id legal.0 spares.0
 
 -- a plain read that picks a version is given all of it
-pub whole_given : (found : Found (List ℕ)) (facts : Facts) → given_whole (shown_as found (shown_by plain facts)) ≡ Some found
-whole_given found facts = ap (λ (r : Result Selection Refusal). given_whole (shown_as found r)) (plain_shown facts)
+pub whole_given : (found : Found (List ℕ)) (overrides : List MetadataEntry) (facts : Facts)
+    → given_whole (shown_as found overrides (shown_by plain facts)) ≡ Some found
+whole_given found overrides facts = ap (λ (r : Result Selection Refusal). given_whole (shown_as found overrides r)) (plain_shown facts)
 
 -- and one that picks what a put made is given it
-gives : (e : Entry) (s : State) (name : List ℕ) (what : Data (List ℕ)) (b : Versioning) (n t : ℕ)
+gives : (e : Entry) (s : State) (name : List ℕ) (overrides : List MetadataEntry) (what : Data (List ℕ)) (b : Versioning) (n t : ℕ)
     (read : Result (Version (List ℕ) × Data (List ℕ)) Refusal)
-    → e.answer.outcome ≡ picked s name plain read → read ≡ Ok (made b n t (Stored what), what) → IsGiven t what e
-gives e s name what b n t read is picks = record {
+    → e.answer.outcome ≡ picked s name plain overrides read → read ≡ Ok (made b n t (Stored what), what) → IsGiven t what e
+gives e s name overrides what b n t read is picks = record {
   found = found_in (versioning_of s name) (made b n t (Stored what), what);
-  gives = ap given_whole (is ∙ ap (picked s name plain) picks)
-      ∙ whole_given (found_in (versioning_of s name) (made b n t (Stored what), what)) (facts_of (made b n t (Stored what), what));
+  gives = ap given_whole (is ∙ ap (picked s name plain overrides) picks)
+      ∙ whole_given (found_in (versioning_of s name) (made b n t (Stored what), what)) overrides (facts_of (made b n t (Stored what), what));
   moment = refl;
   holds = refl;
 }
@@ -226,7 +234,7 @@ module _ (places : ChangesAreByPlace (List ℕ)) (follow : FollowRules) where
       let added = entry_stores rules here at.m write object at.right stores in
       let versions = key_left places follow rules (after_entry rules here write) at.k between a at.legal leaves ∙ added.versions in
       let now = current added.versioning write.answer.number object.moment object.stored (versions_at here a) in
-      gives read there a.bucket object.stored added.versioning write.answer.number object.moment (pick None (versions_at there a))
+      gives read there a.bucket (overrides_of read.command) object.stored added.versioning write.answer.number object.moment (pick None (versions_at there a))
       (outcome_is rules there at.j read at.right_last
       ∙ step_reads rules there read.answer.number read.moment read.command (whole a None) _ reads (ap (asked_for None) versions ∙ now.0))
       (ap (pick None) versions ∙ now.1)
@@ -240,7 +248,7 @@ module _ (places : ChangesAreByPlace (List ℕ)) (follow : FollowRules) where
       let added = entry_stores rules here at.m write object at.right stores in
       let stands = version_spared places follow rules (after_entry rules here write) at.k between a object.id at.legal spares
       ∙ added.stands in
-      gives read there a.bucket object.stored added.versioning write.answer.number object.moment
+      gives read there a.bucket (overrides_of read.command) object.stored added.versioning write.answer.number object.moment
       (pick (Some object.id) (versions_at there a))
       (outcome_is rules there at.j read at.right_last
       ∙ step_reads rules there read.answer.number read.moment read.command (whole a (Some object.id)) _ reads stands)

@@ -1,6 +1,7 @@
 pub mod AnswerLemmas
 pub mod BaseLemmas
 pub mod BroughtLemmas
+pub mod BucketLemmas
 pub mod ChangeLemmas
 pub mod ConditionalLemmas
 pub mod ContainsLemmas
@@ -10,11 +11,14 @@ pub mod DeletionLemmas
 pub mod DeletionRowLemmas
 pub mod EffectLemmas
 pub mod HistoryLemmas
+pub mod IdLemmas
 pub mod JoinedLemmas
 pub mod KeptLemmas
 pub mod ListLemmas
+pub mod MarkerLemmas
 pub mod OpenLemmas
 pub mod OriginLemmas
+pub mod PageLemmas
 pub mod PartLemmas
 pub mod RegionLemmas
 pub mod RowLemmas
@@ -22,4 +26,7 @@ pub mod ShownLemmas
 pub mod StateLemmas
 pub mod StayLemmas
 pub mod TellingLemmas
+pub mod ToldListLemmas
+pub mod ToldVersionLemmas
+pub mod UnmetLemmas
 pub mod UploadLemmas

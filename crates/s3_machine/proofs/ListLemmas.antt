@@ -11,17 +11,16 @@ use Rattle.s3_versions.specs.declared.picking.Facts.{Facts}
 use Rattle.s3_versions.specs.declared.picking.Refusal.{Refusal}
 use Rattle.s3_versions.specs.declared.version.Data.{Data}
 use Rattle.s3_versions.specs.declared.version.Version.{Version}
+use Rattle.s3_versions.specs.Metadata.{Entry as MetadataEntry}
 use Rattle.s3_versions.specs.Rules.{id_of, pick, facts_of, facts_read}
 use Rattle.s3_versions.specs.Laws.{PutsAreCurrent, IdsAreTold}
 use Rattle.s3_records.specs.Catalogue.{Bucket, Catalogue, has_bucket, versions_in, versions_of, versioning_of}
 use Rattle.s3_records.specs.Places.{ChangesAreByPlace}
 use Rattle.s3_records.specs.Rows.{key_rows}
 use Rattle.s3_prefixes.specs.declared.asked.ObjectsAsked.{ObjectsAsked}
-use Rattle.s3_listings.specs.declared.asked.VersionsAsked.{VersionsAsked}
 use Rattle.s3_listings.specs.Laws.{ListedAreRead}
 use Rattle.s3_prefixes.specs.Items.{Object as Item}
 use Rattle.s3_listings.specs.Objects.{objects_asked, objects_told}
-use Rattle.s3_listings.specs.Versions.{versions_page}
 use Rattle.s3_documents.specs.Document as documents
 use Rattle.s3_machine.specs.declared.command.BucketCommand.TheVariants as bucket_commands
 use Rattle.s3_machine.specs.declared.command.Command.{Command}
@@ -34,12 +33,12 @@ use Rattle.s3_machine.specs.Fault.{refuse}
 use Rattle.s3_machine.specs.Effects.{Object, given_whole, facts_found, succeeds}
 use Rattle.s3_machine.specs.History.{Entry, Legal, after, after_entry}
 use Rattle.s3_machine.specs.Bases.{EverySoundHistory}
-use Rattle.s3_machine.specs.Kept.{EveryHistory, WasStored, Stayed, facts_stored, StoredIsListed, ListedIsStored, ListsTellWhatIsThere, VersionListsTellWhatIsThere}
-use Rattle.s3_machine.specs.Laws.{reading, all_keys, IsListed, ListsShowWhatReadsGive, ListsAreTold, VersionListsAreTold}
+use Rattle.s3_machine.specs.Kept.{EveryHistory, WasStored, Stayed, facts_stored, StoredIsListed, ListedIsStored}
+use Rattle.s3_machine.specs.Laws.{reading, all_keys, IsListed, ListsShowWhatReadsGive}
 use Rattle.s3_machine.specs.Step.{State, Stepped, found_in, bucket_done, key_done, done, stepped, step}
 use Rattle.s3_machine.proofs.EffectLemmas.{FollowRules, versions_at}
 use Rattle.s3_machine.proofs.HistoryLemmas.{Legal-append, after-append, right_at}
-use Rattle.s3_machine.proofs.KeptLemmas.{outcome_is, picked, got, whole_given, past_line, key_left, entry_stores}
+use Rattle.s3_machine.proofs.KeptLemmas.{outcome_is, picked, got, whole_given, key_left, entry_stores}
 use Rattle.s3_machine.proofs.OriginLemmas.{picked_stands, only_stored_stands}
 use Rattle.s3_machine.proofs.StateLemmas.{Numbers}
 
@@ -55,37 +54,38 @@ listed_is_current law c name key facts =
     (λ stands. (both.0 stands).0, λ is. both.1 (is, refl))
 
 -- what is known of what a read of these versions is given
-abbrev facts_picked : List (Version (List ℕ)) → Option Facts
+abbrev pub facts_picked : List (Version (List ℕ)) → Option Facts
 facts_picked vs = result_ok (facts_read (pick None vs))
 
-abbrev facts_given : Stepped → Option Facts
+abbrev pub facts_given : Stepped → Option Facts
 facts_given st = option_map facts_found (given_whole st.1)
 
-picked_facts : (s : State) (name : List ℕ) (read : Result (Version (List ℕ) × Data (List ℕ)) Refusal)
-    → option_map facts_found (given_whole (picked s name plain read)) ≡ result_ok (facts_read read)
-picked_facts s name (Ok read) = ap (option_map facts_found) (whole_given (found_in (versioning_of s name) read) (facts_of read))
-picked_facts s name (Err refusal) = refl
+pub picked_facts : (s : State) (name : List ℕ) (overrides : List MetadataEntry) (read : Result (Version (List ℕ) × Data (List ℕ)) Refusal)
+    → option_map facts_found (given_whole (picked s name plain overrides read)) ≡ result_ok (facts_read read)
+picked_facts s name overrides (Ok read) =
+    ap (option_map facts_found) (whole_given (found_in (versioning_of s name) read) overrides (facts_of read))
+picked_facts s name overrides (Err refusal) = refl
 
 -- nothing is under a key of a bucket that isn't there
-none_there : (found : Option (Bucket (List ℕ))) (key : List ℕ) → is_some found ≡ false → versions_in found key ≡ []
+pub none_there : (found : Option (Bucket (List ℕ))) (key : List ℕ) → is_some found ≡ false → versions_in found key ≡ []
 none_there None key is = refl
 none_there (Some b) key is = absurd (cc)
 
-in_bucket : (s : State) (name key : List ℕ) (there : Bool) (next : Result Stepped Refusal) → has_bucket s name ≡ there
+pub in_bucket : (s : State) (name key : List ℕ) (there : Bool) (next : Result Stepped Refusal) → has_bucket s name ≡ there
     → facts_given (stepped s next) ≡ facts_picked (versions_of s name key)
     → facts_given (stepped s (refuse (not there) NoSuchBucket >> next)) ≡ facts_picked (versions_of s name key)
 in_bucket s name key true next is goes = goes
 in_bucket s name key false next is goes = sym (ap facts_picked (none_there (map.get s name) key is))
 
 read_facts : (rules : Rules) (s : State) (n t : ℕ) (name key : List ℕ)
-    → facts_given (step rules s n t (reading name key None plain)) ≡ facts_picked (versions_of s name key)
+    → facts_given (step rules s n t (reading name key None plain [])) ≡ facts_picked (versions_of s name key)
 unfolding done key_done
 read_facts rules s n t name key =
     let read = pick None (versions_of s name key) in
-    in_bucket s name key (has_bucket s name) (key_done s n t name key (key_commands.Read (record { version = None; conditions = plain }))) refl
-    (ap (λ o. option_map facts_found (given_whole o)) (got s name plain read) ∙ picked_facts s name read)
+    in_bucket s name key (has_bucket s name) (key_done s n t name key (key_commands.Read (record { version = None; conditions = plain; overrides = [] }))) refl
+    (ap (λ o. option_map facts_found (given_whole o)) (got s name plain [] read) ∙ picked_facts s name [] read)
 
-ok_facts : (read : Result Facts Refusal) (facts : Facts) → result_ok read ≡ Some facts → read ≡ Ok facts
+pub ok_facts : (read : Result Facts Refusal) (facts : Facts) → result_ok read ≡ Some facts → read ≡ Ok facts
 ok_facts (Ok other) facts is = let same : other ≡ facts = cc in ap (λ (f : Facts). Ok f) same
 ok_facts (Err refusal) facts is = absurd (cc)
 
@@ -96,14 +96,6 @@ lists_show_what_reads_give law rules s n t a facts =
       λ stands. is ∙ ap result_ok (listed.0 stands),
       λ gives. listed.1 (ok_facts (facts_read (pick None (versions_of s a.bucket a.key))) facts (sym is ∙ gives)),
     )
-
-pub lists_are_told : ListsAreTold
-unfolding done bucket_done
-lists_are_told rules s n t name asked there = ap (λ (st : Stepped). st.1) (past_line s (not (has_bucket s name)) _ (ap not there))
-
-pub version_lists_are_told : VersionListsAreTold
-unfolding done bucket_done
-version_lists_are_told rules s n t name asked there = ap (λ (st : Stepped). st.1) (past_line s (not (has_bucket s name)) _ (ap not there))
 
 -- ---- histories
 
@@ -146,19 +138,12 @@ pub page_told : (s : State) (fault : Bool) (outcome : Outcome) → succeeds (ste
 page_told s true outcome success = absurd (false≢true success)
 page_told s false outcome success = refl
 
-objects_step : (rules : Rules) (s : State) (n t : ℕ) (name : List ℕ) (asked : ObjectsAsked)
+pub objects_step : (rules : Rules) (s : State) (n t : ℕ) (name : List ℕ) (asked : ObjectsAsked)
     → succeeds (step rules s n t (commands.Bucket name (bucket_commands.ListObjects asked))).1 ≡ true
     → (step rules s n t (commands.Bucket name (bucket_commands.ListObjects asked))).1
     ≡ outcomes.Told (documents.objects name asked (objects_told asked (key_rows s name)))
 unfolding done bucket_done
 objects_step rules s n t name asked success = page_told s (not (has_bucket s name)) _ success
-
-versions_step : (rules : Rules) (s : State) (n t : ℕ) (name : List ℕ) (asked : VersionsAsked)
-    → succeeds (step rules s n t (commands.Bucket name (bucket_commands.ListVersions asked))).1 ≡ true
-    → (step rules s n t (commands.Bucket name (bucket_commands.ListVersions asked))).1
-    ≡ outcomes.Told (documents.versions name asked (versions_page asked s name))
-unfolding done bucket_done
-versions_step rules s n t name asked success = page_told s (not (has_bucket s name)) _ success
 
 -- an entry of this command has the outcome of its step
 pub command_outcome : (rules : Rules) (s : State) (n : ℕ) (entries before later : List Entry) (e : Entry) (command : Command)
@@ -167,15 +152,3 @@ pub command_outcome : (rules : Rules) (s : State) (n : ℕ) (entries before late
 command_outcome rules s n entries before later e command legal parts is =
     outcome_is rules (after rules s before) _ e (right_at rules s n entries before later e legal parts)
     ∙ ap (λ (c : Command). (step rules (after rules s before) e.answer.number e.moment c).1) is
-
-pub lists_tell_what_is_there : EveryHistory ListsTellWhatIsThere
-lists_tell_what_is_there rules s n entries legal before later list name asked parts is success =
-    let outcome = command_outcome rules s n entries before later list _ legal parts is in
-    outcome
-    ∙ objects_step rules (after rules s before) list.answer.number list.moment name asked (sym (ap succeeds outcome) ∙ success)
-
-pub version_lists_tell_what_is_there : EveryHistory VersionListsTellWhatIsThere
-version_lists_tell_what_is_there rules s n entries legal before later list name asked parts is success =
-    let outcome = command_outcome rules s n entries before later list _ legal parts is in
-    outcome
-    ∙ versions_step rules (after rules s before) list.answer.number list.moment name asked (sym (ap succeeds outcome) ∙ success)

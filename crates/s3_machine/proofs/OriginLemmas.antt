@@ -13,6 +13,7 @@ use Rattle.s3_versions.specs.declared.version.Data.{Data}
 use Rattle.s3_versions.specs.declared.version.Version.{Version}
 use Rattle.s3_versions.specs.declared.version.Versioning.{Versioning}
 use Rattle.s3_versions.specs.declared.version.Versioning.TheVariants.{Unversioned, Enabled, Suspended}
+use Rattle.s3_versions.specs.Metadata.{Entry as MetadataEntry}
 use Rattle.s3_versions.specs.Rules.{id_of, is_under, made, new_id, stored, stored_in, pick, facts_of, asked_for, judged, read_as}
 use Rattle.s3_terms.specs.declared.code.Code.TheVariants.{NoSuchBucket, NoSuchKey, MethodNotAllowed}
 use Rattle.s3_versions.specs.Laws.{IdsAreTold}
@@ -225,20 +226,20 @@ picked_stands ids s a asked read picks =
     (there.0, record { version = read.0; there = there.1; moment = refl; holds = ok.1 })
 
 -- a read that hands out a version found it
-shows_found : (s : State) (here found : Found (List ℕ)) (selection : Result Selection Refusal)
-    → given (stepped s (selection >>= (λ chosen. Ok (s, outcome_shown here chosen)))).1 ≡ Some found → here ≡ found
-shows_found s here found (Ok Whole) is = cc
-shows_found s here found (Ok (Part first last)) is = cc
-shows_found s here found (Ok Unchanged) is = absurd (cc)
-shows_found s here found (Ok Outside) is = absurd (cc)
-shows_found s here found (Err refusal) is = absurd (cc)
+shows_found : (s : State) (here found : Found (List ℕ)) (overrides : List MetadataEntry) (selection : Result Selection Refusal)
+    → given (stepped s (selection >>= (λ chosen. Ok (s, outcome_shown here overrides chosen)))).1 ≡ Some found → here ≡ found
+shows_found s here found overrides (Ok Whole) is = cc
+shows_found s here found overrides (Ok (Part first last)) is = cc
+shows_found s here found overrides (Ok Unchanged) is = absurd (cc)
+shows_found s here found overrides (Ok Outside) is = absurd (cc)
+shows_found s here found overrides (Err refusal) is = absurd (cc)
 
-given_of : (s : State) (name : List ℕ) (conditions : Conditions) (result : Result (Version (List ℕ) × Data (List ℕ)) Refusal) (found : Found (List ℕ))
-    → given (stepped s (result >>= shown s name conditions)).1 ≡ Some found
+given_of : (s : State) (name : List ℕ) (conditions : Conditions) (overrides : List MetadataEntry) (result : Result (Version (List ℕ) × Data (List ℕ)) Refusal) (found : Found (List ℕ))
+    → given (stepped s (result >>= shown s name conditions overrides)).1 ≡ Some found
     → (read : Version (List ℕ) × Data (List ℕ)) × (result ≡ Ok read) × (found_in (versioning_of s name) read ≡ found)
-given_of s name conditions (Ok read) found is =
-    (read, refl, shows_found s (found_in (versioning_of s name) read) found (shown_by conditions (facts_of read)) is)
-given_of s name conditions (Err refusal) found is = absurd (cc)
+given_of s name conditions overrides (Ok read) found is =
+    (read, refl, shows_found s (found_in (versioning_of s name) read) found overrides (shown_by conditions (facts_of read)) is)
+given_of s name conditions overrides (Err refusal) found is = absurd (cc)
 
 step_given : (rules : Rules) (s : State) (n t : ℕ) (command : Command) (asked : Read) (found : Found (List ℕ)) → reads command ≡ Some asked
     → given (step rules s n t command).1 ≡ Some found
@@ -254,7 +255,7 @@ step_given rules s n t (commands.Key name key (key_commands.Read wanted)) asked 
     (not (has_bucket s name)) NoSuchBucket
     (key_done s n t name key (key_commands.Read wanted))
     (λ none. absurd (cc))
-    (λ there ok. given_of s name wanted.conditions (pick wanted.version (versions_of s name key)) found ok) gives)
+    (λ there ok. given_of s name wanted.conditions wanted.overrides (pick wanted.version (versions_of s name key)) found ok) gives)
 step_given rules s n t _ asked found is gives = absurd (cc)
 
 pub reads_found : IdsAreTold (List ℕ) → (rules : Rules) (s : State) (n t : ℕ) (command : Command) (asked : Read) (found : Found (List ℕ))

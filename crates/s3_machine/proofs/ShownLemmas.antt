@@ -11,6 +11,7 @@ use Rattle.s3_conditions.specs.Conditions.{judged}
 use Rattle.s3_versions.specs.declared.picking.Refusal.{Refusal}
 use Rattle.s3_versions.specs.declared.version.Data.{Data}
 use Rattle.s3_versions.specs.declared.version.Version.{Version}
+use Rattle.s3_versions.specs.Metadata.{Entry as MetadataEntry}
 use Rattle.s3_versions.specs.Rules.{pick, facts_of}
 use Rattle.s3_records.specs.Catalogue.{has_bucket, versions_of, versioning_of}
 use Rattle.s3_machine.specs.declared.command.Command.{Command}
@@ -36,21 +37,22 @@ judged_ok : (judgement : Result Selection Code) (selection : Selection) → as_r
 judged_ok (Ok other) selection is = let same : other ≡ selection = cc in ap (λ (x : Selection). Ok x) same
 judged_ok (Err code) selection is = absurd (cc)
 
-chosen_shown : (s : State) (conditions : Conditions) (found : Found (List ℕ)) (selection : Result Selection Refusal)
+chosen_shown : (s : State) (conditions : Conditions) (found : Found (List ℕ)) (overrides : List MetadataEntry) (selection : Result Selection Refusal)
     → shown_by conditions (facts_found found) ≡ selection
-    → ShownOf conditions (stepped s (selection >>= (λ chosen. Ok (s, outcome_shown found chosen))))
-chosen_shown s conditions found (Ok Whole) is success =
-    record { found = found; selection = Whole; shows = refl; gives = refl; selects = judged_ok (judged conditions found.moment found.stored.tag found.stored.size) Whole is }
-chosen_shown s conditions found (Ok (Part first last)) is success =
-    record { found = found; selection = Part first last; shows = refl; gives = refl; selects = judged_ok (judged conditions found.moment found.stored.tag found.stored.size) (Part first last) is }
-chosen_shown s conditions found (Ok Unchanged) is success = absurd (false≢true success)
-chosen_shown s conditions found (Ok Outside) is success = absurd (false≢true success)
-chosen_shown s conditions found (Err refusal) is success = absurd (false≢true success)
+    → ShownOf conditions (stepped s (selection >>= (λ chosen. Ok (s, outcome_shown found overrides chosen))))
+chosen_shown s conditions found overrides (Ok Whole) is success =
+    record { found = found; selection = Whole; overrides = overrides; shows = refl; gives = refl; selects = judged_ok (judged conditions found.moment found.stored.tag found.stored.size) Whole is }
+chosen_shown s conditions found overrides (Ok (Part first last)) is success =
+    record { found = found; selection = Part first last; overrides = overrides; shows = refl; gives = refl; selects = judged_ok (judged conditions found.moment found.stored.tag found.stored.size) (Part first last) is }
+chosen_shown s conditions found overrides (Ok Unchanged) is success = absurd (false≢true success)
+chosen_shown s conditions found overrides (Ok Outside) is success = absurd (false≢true success)
+chosen_shown s conditions found overrides (Err refusal) is success = absurd (false≢true success)
 
-read_shown : (s : State) (name : List ℕ) (conditions : Conditions) (read : Result (Version (List ℕ) × Data (List ℕ)) Refusal)
-    → ShownOf conditions (stepped s (read >>= shown s name conditions))
-read_shown s name conditions (Ok read) = chosen_shown s conditions (found_in (versioning_of s name) read) (shown_by conditions (facts_of read)) refl
-read_shown s name conditions (Err refusal) = λ success. absurd (false≢true success)
+read_shown : (s : State) (name : List ℕ) (conditions : Conditions) (overrides : List MetadataEntry) (read : Result (Version (List ℕ) × Data (List ℕ)) Refusal)
+    → ShownOf conditions (stepped s (read >>= shown s name conditions overrides))
+read_shown s name conditions overrides (Ok read) =
+    chosen_shown s conditions (found_in (versioning_of s name) read) overrides (shown_by conditions (facts_of read)) refl
+read_shown s name conditions overrides (Err refusal) = λ success. absurd (false≢true success)
 
 step_shown : (rules : Rules) (s : State) (n t : ℕ) (command : Command) (asked : Read) → reads command ≡ Some asked
     → ShownOf asked.conditions (step rules s n t command)
@@ -60,7 +62,7 @@ step_shown rules s n t (commands.Key name key (key_commands.Read wanted)) asked 
     subst (λ (q : Read). ShownOf q.conditions (step rules s n t (commands.Key name key (key_commands.Read wanted)))) same
     (after_line (ShownOf wanted.conditions) s (not (has_bucket s name)) NoSuchBucket (key_done s n t name key (key_commands.Read wanted))
     (λ success. absurd (false≢true success))
-    (λ there. read_shown s name wanted.conditions (pick wanted.version (versions_of s name key))))
+    (λ there. read_shown s name wanted.conditions wanted.overrides (pick wanted.version (versions_of s name key))))
 step_shown rules s n t _ asked is = absurd (cc)
 
 pub reads_are_judged : EveryHistory ReadsAreJudged

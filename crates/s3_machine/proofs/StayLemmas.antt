@@ -22,7 +22,7 @@ use Rattle.s3_machine.proofs.StateLemmas.{numbered_by}
 use Rattle.s3_machine.proofs.UploadLemmas.{IsEnded, Left, Begun, Sent, Ended}
 
 -- an upload that was begun has what it was begun with, and goes on to
-opened : (s : State) (upload : UploadPlace) (t : ℕ) (asked : Description) → open_at s upload ≡ Some (upload_begun t asked) → IsOpen s upload t asked
+pub opened : (s : State) (upload : UploadPlace) (t : ℕ) (asked : Description) → open_at s upload ≡ Some (upload_begun t asked) → IsOpen s upload t asked
 opened s upload t asked is =
     record { found = upload_begun t asked; there = is; moment = refl; content_type = refl; metadata = refl }
 

@@ -7,21 +7,21 @@ use Rattle.std.specs.List.{starts_with}
 use Rattle.std.specs.Result.{result_ok}
 use Rattle.s3_terms.specs.declared.code.Code.{Code}
 use Rattle.s3_terms.specs.declared.code.Code.TheVariants.{NoSuchBucket, InvalidArgument, NoSuchUpload}
-use Rattle.s3_terms.specs.Fault as faults
 use Rattle.s3_terms.specs.Fault.{◌>>◌, ◌>>=◌}
 use Rattle.s3_names.specs.declared.ids.VersionId.{VersionId}
 use Rattle.s3_bodies.specs.Payload.{tag_of}
 use Rattle.s3_versions.specs.declared.picking.Refusal.{Refusal}
 use Rattle.s3_versions.specs.declared.version.Data.{Data}
 use Rattle.s3_uploads.specs.Completion.{completed}
-use Rattle.s3_uploads.specs.Parts.{part_tag}
+use Rattle.s3_uploads.specs.Laws.{PutsAreUnderOneNumber}
+use Rattle.s3_uploads.specs.Parts.{part_tag, part_sent}
 use Rattle.s3_uploads.specs.declared.listed.ListedPart.{ListedPart}
 use Rattle.s3_uploads.specs.declared.part.Part.{Part}
 use Rattle.s3_uploads.specs.declared.upload.Upload.{Upload}
 use Rattle.s3_records.specs.Catalogue.{has_bucket}
 use Rattle.s3_records.specs.Laws.{UploadsAreListed}
 use Rattle.s3_records.specs.OpenUploads.{upload_at, parts_sent, parts_at, is_upload_from, upload_rows}
-use Rattle.s3_records.specs.Places.{ChangesAreByPlace}
+use Rattle.s3_records.specs.Places.{ChangesAreByPlace, ChangesAreByUpload}
 use Rattle.s3_records.specs.Rows.{is_from}
 use Rattle.s3_records.specs.declared.rows.Start.TheVariants.{Behind}
 use Rattle.s3_records.specs.declared.rows.UploadRow.{UploadRow}
@@ -43,28 +43,29 @@ use Rattle.s3_machine.specs.declared.command.Found.{Found}
 use Rattle.s3_machine.specs.declared.command.PartCopy.{PartCopy}
 use Rattle.s3_machine.specs.declared.command.UploadCommand.{UploadCommand}
 use Rattle.s3_machine.specs.declared.command.UploadCommand.TheVariants as upload_commands
-use Rattle.s3_machine.specs.declared.command.WriteCondition.{WriteCondition}
 use Rattle.s3_machine.specs.declared.rules.Rules.{Rules}
 use Rattle.s3_machine.specs.Bases.{EverySoundHistory}
-use Rattle.s3_machine.specs.Effects.{Address, UploadPlace, Read, place_of, open_at, begins, sent, copied_part, puts_part, source_read, copies_part, completes, succeeds}
+use Rattle.s3_machine.specs.Effects.{Address, UploadPlace, Read, place_of, open_at, part_in, begins, sent, copied_part, puts_part, source_read, copies_part, completes, succeeds}
 use Rattle.s3_machine.specs.Fault.{refuse, as_refusal}
-use Rattle.s3_machine.specs.History.{after}
+use Rattle.s3_machine.specs.History.{after, after_entry}
 use Rattle.s3_machine.specs.Kept.{WouldGive, EveryHistory}
-use Rattle.s3_machine.specs.Laws.{asking, UploadListsAreTold, PartListsAreTold, ClosedUploadsAreRefused, IsByRule, completion_rule, CompletionsGoByTheRule}
+use Rattle.s3_machine.specs.Laws.{asking, ClosedUploadsAreRefused}
 use Rattle.s3_machine.specs.Step.{State, Stepped, tag_at, is_barred, barred_code, source_found, lies_in, part_copied, bucket_done, key_done, upload_done, done, stepped, step}
-use Rattle.s3_machine.specs.UploadsKept.{all_uploads, UploadsAreOpenUntilEnded, BegunIsTold, SentIsTold, CopiedPartIsTold, CompletedIsTold, UploadListsTellWhatIsThere, PartListsTellWhatIsThere, UploadsAreListedWhileOpen, OnlyWritesChangeVersions}
+use Rattle.s3_machine.specs.Uploads.{IsOpen}
+use Rattle.s3_machine.specs.UploadsKept.{all_uploads, UploadsAreOpenUntilEnded, BegunIsTold, SentIsTold, CopiedPartIsTold, CompletedIsTold, UploadsAreListedWhileOpen, OnlyWritesChangeVersions}
 use Rattle.s3_machine.proofs.AnswerLemmas.{would_find}
 use Rattle.s3_machine.proofs.ContainsLemmas.{contains_later}
 use Rattle.s3_machine.proofs.CourseLemmas.{asked_of}
 use Rattle.s3_machine.proofs.EffectLemmas.{FollowRules, versions_at, after_line, part_copying, completing}
 use Rattle.s3_machine.proofs.HistoryLemmas.{after-push, right_at}
 use Rattle.s3_machine.proofs.KeptLemmas.{outcome_is, past_line, versions_left}
-use Rattle.s3_machine.proofs.ListLemmas.{page_told, command_outcome}
+use Rattle.s3_machine.proofs.ListLemmas.{page_told}
+use Rattle.s3_machine.proofs.StayLemmas.{opened, begins_it, sends_it}
 
 -- ---- answers
 
 -- what succeeds is told this
-abbrev TellsWhere : (Outcome → Type 0) → Stepped → Type 0
+abbrev pub TellsWhere : (Outcome → Type 0) → Stepped → Type 0
 TellsWhere P st = succeeds st.1 ≡ true → P st.1
 
 -- behind a line that may refuse
@@ -80,7 +81,7 @@ told_open : (P : Outcome → Type 0) (s : State) (found : Option (Upload (List �
 told_open P s None next tells success = absurd (false≢true success)
 told_open P s (Some u) next tells success = tells u refl success
 
-begin_told : (rules : Rules) (s : State) (n t : ℕ) (command : Command) (a : Address) (asked : Description) → begins command ≡ Some (a, asked)
+pub begin_told : (rules : Rules) (s : State) (n t : ℕ) (command : Command) (a : Address) (asked : Description) → begins command ≡ Some (a, asked)
     → TellsWhere (λ o. o ≡ outcomes.Told (documents.begun a.bucket a.key n)) (step rules s n t command)
 unfolding done key_done
 begin_told rules s n t (commands.Key bucket key (key_commands.Begin begin)) a asked is =
@@ -89,14 +90,6 @@ begin_told rules s n t (commands.Key bucket key (key_commands.Begin begin)) a as
     (key_done s n t bucket key (key_commands.Begin begin))
     (λ success. ap (λ (p : Address × Description). outcomes.Told (documents.begun p.0.bucket p.0.key n)) both)
 begin_told rules s n t _ a asked is = absurd (cc)
-
-pub begun_is_told : EveryHistory BegunIsTold
-begun_is_told rules s n entries legal before later begin upload asked parts begins =
-    let outcome = outcome_is rules (after rules s before) _ begin (right_at rules s n entries before later begin legal parts) in
-    outcome
-    ∙ begin_told rules (after rules s before) begin.answer.number begin.moment begin.command upload.address asked begins.at
-    (sym (ap succeeds outcome) ∙ begins.accepted)
-    ∙ ap (λ (id : ℕ). outcomes.Told (documents.begun upload.address.bucket upload.address.key id)) (sym begins.numbered)
 
 send_told : (rules : Rules) (s : State) (n t : ℕ) (command : Command) (bytes : List ℕ) → sent command ≡ Some bytes
     → TellsWhere (λ o. o ≡ outcomes.PartPut (tag_of bytes)) (step rules s n t command)
@@ -108,12 +101,40 @@ send_told rules s n t (commands.Upload name key id (upload_commands.PutPart numb
     (told_open P s (upload_at s name key id) _ (λ u is success. ap (λ (b : List ℕ). outcomes.PartPut (tag_of b)) same))
 send_told rules s n t _ bytes brings = absurd (cc)
 
-pub sent_is_told : EveryHistory SentIsTold
-sent_is_told rules s n entries legal before later send bytes parts brings accepted =
-    let outcome = outcome_is rules (after rules s before) _ send (right_at rules s n entries before later send legal parts) in
-    outcome
-    ∙ send_told rules (after rules s before) send.answer.number send.moment send.command bytes brings
-    (sym (ap succeeds outcome) ∙ accepted)
+-- the part that it puts
+sent_puts : (s : State) (t : ℕ) (command : Command) (bytes : List ℕ) → sent command ≡ Some bytes → puts_part s t command ≡ Some (part_sent t bytes)
+sent_puts s t (commands.Upload name key id (upload_commands.PutPart number payload)) bytes brings =
+    ap (λ (b : List ℕ). Some (part_sent t b)) (same_Some payload bytes brings)
+sent_puts s t _ bytes brings = absurd (cc)
+
+module _ (law : ChangesAreByUpload (List ℕ)) (puts : PutsAreUnderOneNumber (List ℕ)) where
+  pub begun_is_told : EveryHistory BegunIsTold
+  begun_is_told rules s n entries legal before later begin address asked parts at accepted =
+      let here = after rules s before in
+      let right = right_at rules s n entries before later begin legal parts in
+      let outcome = outcome_is rules here _ begin right in
+      let upload : UploadPlace = record { address = address; id = begin.answer.number } in (
+        begin.answer.number,
+        outcome
+            ∙ begin_told rules here begin.answer.number begin.moment begin.command address asked at (sym (ap succeeds outcome) ∙ accepted),
+        subst (λ (state : State). IsOpen state upload begin.moment asked) (sym (after-push rules s before begin))
+            (opened (after_entry rules here begin) upload begin.moment asked
+            (begins_it law puts rules here _ begin upload asked right (record { at = at; numbered = refl; accepted = accepted }))),
+      )
+
+  pub sent_is_told : EveryHistory SentIsTold
+  sent_is_told rules s n entries legal before later send part bytes parts sends =
+      let here = after rules s before in
+      let right = right_at rules s n entries before later send legal parts in
+      let outcome = outcome_is rules here _ send right in
+      let what = part_sent send.moment bytes in
+      let put = sends_it law puts rules here _ send part what right
+      (record { at = sends.at; puts = sent_puts here send.moment send.command bytes sends.brings; accepted = sends.accepted }) in (
+        what,
+        ap (λ (state : State). part_in state part) (after-push rules s before send) ∙ put.now,
+        outcome
+            ∙ send_told rules here send.answer.number send.moment send.command bytes sends.brings (sym (ap succeeds outcome) ∙ sends.accepted),
+      )
 
 -- of a part that is copied it is told what it is, and what a read of its source would be told
 abbrev TellsCopied : State → ℕ → Part (List ℕ) → Read → Option CopyRange → Outcome → Type 0
@@ -207,67 +228,16 @@ closed_uploads_are_refused rules s n t upload asked there none =
     ap (λ (st : Stepped). st.1) (past_bucket rules s n t upload asked there)
     ∙ closed_done rules s n t upload.address.bucket upload.address.key upload.id asked none
 
-by_rule : (s : State) (n t : ℕ) (name key : List ℕ) (id : ℕ) (rule : Result (Data (List ℕ)) Code)
-    → IsByRule rule (stepped s (as_refusal rule >>= completing s n t name key id)).1
-by_rule s n t name key id (Ok what) = refl
-by_rule s n t name key id (Err code) = refl
-
--- behind its condition
-by_condition : (s : State) (n t : ℕ) (name key : List ℕ) (id : ℕ) (barred : Bool) (code : Code)
-    (rule : Result (Data (List ℕ)) Code)
-    → IsByRule (faults.refuse barred code >> rule)
-    (stepped s (refuse barred code >> (as_refusal rule >>= completing s n t name key id))).1
-by_condition s n t name key id true code rule = refl
-by_condition s n t name key id false code rule = by_rule s n t name key id rule
-
-completed_done : (rules : Rules) (s : State) (n t : ℕ) (name key : List ℕ) (id : ℕ) (listed : List ListedPart) (condition : WriteCondition)
-    (found : Upload (List ℕ))
-    → upload_at s name key id ≡ Some found
-    → IsByRule (completion_rule rules s (record { bucket = name; key = key }) listed condition found)
-    (stepped s (upload_done rules s n t name key id (upload_commands.Complete listed condition))).1
-unfolding upload_done
-completed_done rules s n t name key id listed condition found is =
-    rw is (by_condition s n t name key id (is_barred condition (tag_at s name key)) (barred_code (tag_at s name key))
-    (completed rules.least_part listed found))
-
-pub completions_go_by_the_rule : CompletionsGoByTheRule
-completions_go_by_the_rule rules s n t upload listed condition found there is =
-    subst (λ (st : Stepped). IsByRule (completion_rule rules s upload.address listed condition found) st.1)
-    (sym (past_bucket rules s n t upload (upload_commands.Complete listed condition) there))
-    (completed_done rules s n t upload.address.bucket upload.address.key upload.id listed condition found is)
-
-pub upload_lists_are_told : UploadListsAreTold
-unfolding done bucket_done
-upload_lists_are_told rules s n t name asked there = ap (λ (st : Stepped). st.1) (past_line s (not (has_bucket s name)) _ (ap not there))
-
-parts_done : (rules : Rules) (s : State) (n t : ℕ) (name key : List ℕ) (id : ℕ) (asked : PartsAsked) (found : Upload (List ℕ))
-    → upload_at s name key id ≡ Some found
-    → (stepped s (upload_done rules s n t name key id (upload_commands.ListParts asked))).1
-    ≡ outcomes.Told (documents.parts name key id asked (parts_page asked found.parts))
-unfolding upload_done
-parts_done rules s n t name key id asked found is = rw is refl
-
-pub part_lists_are_told : PartListsAreTold
-part_lists_are_told rules s n t upload asked found there is =
-    ap (λ (st : Stepped). st.1) (past_bucket rules s n t upload (upload_commands.ListParts asked) there)
-    ∙ parts_done rules s n t upload.address.bucket upload.address.key upload.id asked found is
-
 -- ---- lists
 
-uploads_step : (rules : Rules) (s : State) (n t : ℕ) (name : List ℕ) (asked : UploadsAsked)
+pub uploads_step : (rules : Rules) (s : State) (n t : ℕ) (name : List ℕ) (asked : UploadsAsked)
     → succeeds (step rules s n t (commands.Bucket name (bucket_commands.ListUploads asked))).1 ≡ true
     → (step rules s n t (commands.Bucket name (bucket_commands.ListUploads asked))).1
     ≡ outcomes.Told (documents.uploads name asked (uploads_page asked s name))
 unfolding done bucket_done
 uploads_step rules s n t name asked success = page_told s (not (has_bucket s name)) _ success
 
-pub upload_lists_tell_what_is_there : EveryHistory UploadListsTellWhatIsThere
-upload_lists_tell_what_is_there rules s n entries legal before later list name asked parts is success =
-    let outcome = command_outcome rules s n entries before later list _ legal parts is in
-    outcome
-    ∙ uploads_step rules (after rules s before) list.answer.number list.moment name asked (sym (ap succeeds outcome) ∙ success)
-
-parts_step : (rules : Rules) (s : State) (n t : ℕ) (name key : List ℕ) (id : ℕ) (asked : PartsAsked)
+pub parts_step : (rules : Rules) (s : State) (n t : ℕ) (name key : List ℕ) (id : ℕ) (asked : PartsAsked)
     → TellsWhere (λ o. o ≡ outcomes.Told (documents.parts name key id asked (parts_page asked (parts_at s name key id))))
     (step rules s n t (commands.Upload name key id (upload_commands.ListParts asked)))
 unfolding done upload_done
@@ -276,12 +246,6 @@ parts_step rules s n t name key id asked =
     told_line P s (not (has_bucket s name)) NoSuchBucket (upload_done rules s n t name key id (upload_commands.ListParts asked))
     (told_open P s (upload_at s name key id) _
     (λ u is success. ap (λ (found : Option (Upload (List ℕ))). outcomes.Told (documents.parts name key id asked (parts_page asked (parts_sent found)))) (sym is)))
-
-pub part_lists_tell_what_is_there : EveryHistory PartListsTellWhatIsThere
-part_lists_tell_what_is_there rules s n entries legal before later list name key id asked parts is success =
-    let outcome = command_outcome rules s n entries before later list _ legal parts is in
-    outcome
-    ∙ parts_step rules (after rules s before) list.answer.number list.moment name key id asked (sym (ap succeeds outcome) ∙ success)
 
 -- what passes a test is kept with those that do
 pub kept_by : {X : Type 0} (p : X → Bool) (xs : List X) (x : X) → p x ≡ true → Contains xs x → Contains (filter p xs) x
@@ -300,11 +264,11 @@ pub was_there : {X : Type 0} (p : X → Bool) (xs : List X) (x : X) → Contains
 was_there p xs x = All-contains (Contains xs) (filter p xs) x (All-filter p (Contains xs) xs (All-contains_itself xs))
 
 -- each row is asked for whose key isn't empty
-behind_none : (key : List ℕ) → key ≢ [] → is_from (Behind []) key ≡ true
+pub behind_none : (key : List ℕ) → key ≢ [] → is_from (Behind []) key ≡ true
 behind_none [] some = absurd (some refl)
 behind_none (b ∷ bs) some = refl
 
-begins_empty : (key : List ℕ) → starts_with nat_eq key [] ≡ true
+pub begins_empty : (key : List ℕ) → starts_with nat_eq key [] ≡ true
 begins_empty [] = refl
 begins_empty (b ∷ bs) = refl
 

@@ -12,6 +12,7 @@ use Rattle.s3_conditions.specs.declared.conditions.Conditions.{Conditions}
 use Rattle.s3_versions.specs.declared.picking.Refusal.{Refusal}
 use Rattle.s3_versions.specs.declared.version.Data.{Data}
 use Rattle.s3_versions.specs.declared.version.Version.{Version}
+use Rattle.s3_versions.specs.Metadata.{Entry as MetadataEntry}
 use Rattle.s3_versions.specs.Rules.{pick, facts_of, KeyChange, VersionPut, KeyDeleted, VersionDropped}
 use Rattle.s3_uploads.specs.Completion.{completed}
 use Rattle.s3_uploads.specs.Parts.{part_sent}
@@ -202,12 +203,12 @@ module _ (law : ChangesAreByUpload (List ℕ)) where
   shown_fate s n t command (Err refusal) out upload = idle s n t command _ upload
 
   read_fate : (s : State) (n t : ℕ) (command : Command) (read : Result (Version (List ℕ) × Data (List ℕ)) Refusal) (name : List ℕ)
-      (conditions : Conditions) (upload : UploadPlace)
+      (conditions : Conditions) (overrides : List MetadataEntry) (upload : UploadPlace)
       → begins command ≡ None → sends command ≡ None → ends command ≡ None
-      → Fate s n t command (stepped s (read >>= shown s name conditions)) upload
-  read_fate s n t command (Ok r) name conditions upload =
-      shown_fate s n t command (shown_by conditions (facts_of r)) (outcome_shown (found_in (versioning_of s name) r)) upload
-  read_fate s n t command (Err refusal) name conditions upload = idle s n t command _ upload
+      → Fate s n t command (stepped s (read >>= shown s name conditions overrides)) upload
+  read_fate s n t command (Ok r) name conditions overrides upload =
+      shown_fate s n t command (shown_by conditions (facts_of r)) (outcome_shown (found_in (versioning_of s name) r) overrides) upload
+  read_fate s n t command (Err refusal) name conditions overrides upload = idle s n t command _ upload
 
   -- an upload begins at its place, and every other stays
   begin_fate : (s : State) (n t : ℕ) (name key : List ℕ) (begin : Description) (outcome : Outcome) (upload : UploadPlace)
@@ -244,7 +245,7 @@ module _ (law : ChangesAreByUpload (List ℕ)) where
       (λ free. key_changed s n t name key _ (VersionPut n t (data_of put)) _ upload there refl refl refl)
   key_fate s n t name key (key_commands.Copy copy) upload there = copy_fate s n t name key copy (copied s copy) upload there
   key_fate s n t name key (key_commands.Read asked) upload there =
-      read_fate s n t _ (pick asked.version (versions_of s name key)) name asked.conditions upload refl refl refl
+      read_fate s n t _ (pick asked.version (versions_of s name key)) name asked.conditions asked.overrides upload refl refl refl
   key_fate s n t name key (key_commands.ReadTags version) upload there =
       shown_fate s n t _ (pick version (versions_of s name key)) _ upload refl refl refl
   key_fate s n t name key (key_commands.Delete None) upload there = key_changed s n t name key _ (KeyDeleted n t) _ upload there refl refl refl

@@ -1,5 +1,5 @@
--- Bases: the states that a history may begin at, and what the laws of histories ask of one. That what is found on a disk makes
--- such a state is said by no clause.
+-- Bases: the states that a history may begin at, and what the laws of histories ask of one. What is found in a folder makes such a
+-- state (`IsSoundCatalogue` of `s3_keepers`), or is refused.
 use Rattle.std.specs.Prelude.{◌≡◌, ◌≢◌, ℕ, ◌+◌, ◌<◌, IsTrue, List, [], length, Some, is_some}
 use Rattle.s3_names.specs.declared.ids.VersionId.TheVariants.{Null}
 use Rattle.s3_versions.specs.declared.version.Versioning.TheVariants.{Unversioned}
@@ -33,7 +33,7 @@ UnversionedAreNull s = (name key : List ℕ) → versioning_of s name ≡ Unvers
 -- A base is sound for entries from number n on: n is above the numbers of all versions and above the ids of all uploads that are
 -- open; each key's versions are in their order, and are `null` where versioning was never set; the numbers of each upload's parts
 -- rise; and no key is there that has nothing.
-pub record IsSound (s : State) (n : ℕ) : Type 0 where
+pub record IsSoundBase (s : State) (n : ℕ) : Type 0 where
   pub versions : AreBelow n s
   pub uploads : UploadsAreBelow n s
   pub ordered : AreCatalogued s
@@ -44,17 +44,17 @@ pub record IsSound (s : State) (n : ℕ) : Type 0 where
 -- What holds of all legal histories that begin at a sound base.
 abbrev pub EverySoundHistory : (Rules → State → List Entry → Type 0) → Type 0
 EverySoundHistory Law =
-    (rules : Rules) (s : State) (n : ℕ) (entries : List Entry) → IsSound s n → Legal rules s n entries → Law rules s entries
+    (rules : Rules) (s : State) (n : ℕ) (entries : List Entry) → IsSoundBase s n → Legal rules s n entries → Law rules s entries
 
 -- The opening state is a sound base, whichever number comes first,
 abbrev pub OpeningIsSound : Type 0
-OpeningIsSound = (names : List (List ℕ)) (n : ℕ) → IsSound (opening names) n
+OpeningIsSound = (names : List (List ℕ)) (n : ℕ) → IsSoundBase (opening names) n
 
 -- and so is what a legal history leaves that begins at one, for the number that comes next.
 abbrev pub HistoriesLeaveSound : Type 0
 HistoriesLeaveSound =
     (rules : Rules) (s : State) (n : ℕ) (entries : List Entry)
-    → IsSound s n → Legal rules s n entries → IsSound (after rules s entries) (n + length entries)
+    → IsSoundBase s n → Legal rules s n entries → IsSoundBase (after rules s entries) (n + length entries)
 
 -- In the opening state no object stands, no upload is open and no part stands: what a law says of those that stayed is of none.
 pub record HasNothing (s : State) : Type 0 where

@@ -13,6 +13,7 @@ use Rattle.s3_versions.specs.declared.picking.Facts.{Facts}
 use Rattle.s3_versions.specs.declared.picking.Refusal.{Refusal}
 use Rattle.s3_versions.specs.declared.version.Data.{Data}
 use Rattle.s3_versions.specs.declared.version.Versioning.{Versioning}
+use Rattle.s3_versions.specs.Metadata.{Entry}
 use Rattle.s3_versions.specs.Rules.{new_id}
 use Rattle.s3_deletions.specs.declared.named.Deletion.{Deletion}
 use Rattle.s3_deletions.specs.declared.named.NamedObject.{NamedObject}
@@ -101,6 +102,16 @@ writes other = []
 abbrev pub deletes : Command → Option (List ℕ × Deletion)
 deletes (commands.DeleteObjects bucket deletion) = Some (bucket, deletion)
 deletes other = None
+
+-- the address that a command deletes, naming no version: where versioning was ever set, a delete marker is to hide it
+abbrev pub key_hidden : Address → KeyCommand → Option Address
+key_hidden address (key_commands.Delete None) = Some address
+key_hidden address (key_commands.DeleteMatching tags) = Some address
+key_hidden address other = None
+
+abbrev pub hides : Command → Option Address
+hides (commands.Key bucket key asked) = key_hidden (record { bucket = bucket; key = key }) asked
+hides other = None
 
 -- the address under which a command stores only where no object is
 abbrev pub where_absent : WriteCondition → Address → Option Address
@@ -271,6 +282,20 @@ abbrev pub reads : Command → Option Read
 reads (commands.Key bucket key asked) = key_read (record { bucket = bucket; key = key }) asked
 reads other = None
 
+-- what its reply is to say of what is read
+abbrev pub key_overrides : KeyCommand → List Entry
+key_overrides (key_commands.Read asked) = asked.overrides
+key_overrides other = []
+
+abbrev pub overrides_of : Command → List Entry
+overrides_of (commands.Key bucket key asked) = key_overrides asked
+overrides_of other = []
+
+-- what is said of a version that is handed out
+abbrev pub said_of : Outcome → List Entry
+said_of (outcomes.Got found selection overrides) = overrides
+said_of other = []
+
 -- what a copy is from: what a read by its conditions is shown
 abbrev pub source_read : Source → Read
 source_read source =
@@ -363,23 +388,23 @@ shows_bytes other = true
 abbrev pub succeeds : Outcome → Bool
 succeeds (outcomes.Refused code is_delete_marker) = false
 succeeds (outcomes.OutOfRange size) = false
-succeeds (outcomes.Got found selection) = shows_bytes selection
+succeeds (outcomes.Got found selection overrides) = shows_bytes selection
 succeeds other = true
 
 -- the version whose bytes are handed out, all of them or a part
 abbrev pub given : Outcome → Option (Found (List ℕ))
-given (outcomes.Got found selection) = if shows_bytes selection then Some found else None
+given (outcomes.Got found selection overrides) = if shows_bytes selection then Some found else None
 given other = None
 
 -- the version that is handed out with all its bytes
 abbrev pub given_whole : Outcome → Option (Found (List ℕ))
-given_whole (outcomes.Got found Whole) = Some found
+given_whole (outcomes.Got found Whole overrides) = Some found
 given_whole other = None
 
 -- what comes of a version that was found, by the judgement of the conditions of a read
-abbrev pub shown_as : Found (List ℕ) → Result Selection Refusal → Outcome
-shown_as found (Ok selection) = outcome_shown found selection
-shown_as found (Err refusal) = outcomes.Refused refusal.code refusal.is_delete_marker
+abbrev pub shown_as : Found (List ℕ) → List Entry → Result Selection Refusal → Outcome
+shown_as found overrides (Ok selection) = outcome_shown found overrides selection
+shown_as found overrides (Err refusal) = outcomes.Refused refusal.code refusal.is_delete_marker
 
 -- what is known of a version that was found
 abbrev pub facts_found : Found (List ℕ) → Facts
@@ -387,7 +412,7 @@ facts_found found = record { moment = found.moment; tag = found.stored.tag; size
 
 -- what comes of a read by conditions, where this comes of the plain one
 abbrev pub by_conditions : Conditions → Outcome → Outcome
-by_conditions conditions (outcomes.Got found selection) = shown_as found (shown_by conditions (facts_found found))
+by_conditions conditions (outcomes.Got found selection overrides) = shown_as found overrides (shown_by conditions (facts_found found))
 by_conditions conditions other = other
 
 -- what was found of a version of this id

@@ -11,28 +11,20 @@ use Rattle.s3_conditions.specs.Conditions.{judged}
 use Rattle.s3_versions.specs.declared.picking.Facts.{Facts}
 use Rattle.s3_versions.specs.declared.version.Data.{Data}
 use Rattle.s3_versions.specs.declared.version.Version.{Version}
+use Rattle.s3_versions.specs.Metadata.{Entry as MetadataEntry}
 use Rattle.s3_versions.specs.Rules.{stored}
 use Rattle.s3_uploads.specs.Completion.{parts_listed, joined_data}
 use Rattle.s3_uploads.specs.declared.listed.ListedPart.{ListedPart}
 use Rattle.s3_uploads.specs.declared.upload.Upload.{Upload}
 use Rattle.s3_records.specs.Places.{version_at}
-use Rattle.s3_records.specs.Rows.{key_rows}
-use Rattle.s3_prefixes.specs.declared.asked.ObjectsAsked.{ObjectsAsked}
-use Rattle.s3_listings.specs.declared.asked.VersionsAsked.{VersionsAsked}
-use Rattle.s3_listings.specs.Objects.{objects_told}
-use Rattle.s3_listings.specs.Versions.{versions_page}
-use Rattle.s3_documents.specs.Document as documents
-use Rattle.s3_machine.specs.declared.command.BucketCommand.TheVariants as bucket_commands
 use Rattle.s3_machine.specs.declared.command.Command.{Command}
-use Rattle.s3_machine.specs.declared.command.Command.TheVariants as commands
-use Rattle.s3_machine.specs.declared.command.KeyCommand.TheVariants as key_commands
 use Rattle.s3_machine.specs.declared.command.Description.{Description}
 use Rattle.s3_machine.specs.declared.command.Found.{Found}
 use Rattle.s3_machine.specs.declared.command.Outcome.{Outcome}
 use Rattle.s3_machine.specs.declared.command.Outcome.TheVariants as outcomes
 use Rattle.s3_machine.specs.declared.rules.Rules.{Rules}
 use Rattle.s3_machine.specs.Step.{State, described, step}
-use Rattle.s3_machine.specs.Effects.{Address, Object, UploadPlace, Read, open_at, writes, copies, completes, brought, brings, object_of, stored_by, whole, reads, given, given_whole, found_object, acknowledged, touched, is_refused, succeeds, only_reads}
+use Rattle.s3_machine.specs.Effects.{Address, Object, UploadPlace, Read, open_at, writes, hides, copies, completes, brought, brings, object_of, stored_by, whole, reads, overrides_of, given, given_whole, found_object, acknowledged, touched, is_refused, succeeds, only_reads}
 use Rattle.s3_machine.specs.History.{Entry, Legal, after}
 use Rattle.s3_machine.specs.Laws.{IsListed}
 use Rattle.s3_machine.specs.Uploads.{Completes, WasJoined}
@@ -134,7 +126,8 @@ pub record IsGiven (t : ℕ) (what : Data (List ℕ)) (e : Entry) : Type 0 where
 pub record IsShown (conditions : Conditions) (outcome : Outcome) : Type 0 where
   pub found : Found (List ℕ)
   pub selection : Selection
-  pub shows : outcome ≡ outcomes.Got found selection
+  pub overrides : List MetadataEntry
+  pub shows : outcome ≡ outcomes.Got found selection overrides
   pub gives : given outcome ≡ Some found
   pub selects : judged conditions found.moment found.stored.tag found.stored.size ≡ Ok selection
 
@@ -199,7 +192,7 @@ pub record WasDescribed (entries : List Entry) (origin what : Data (List ℕ)) :
 
 -- the entry deletes the key, names no version, and makes a delete marker
 pub record Marks (address : Address) (e : Entry) : Type 0 where
-  pub deletes : e.command ≡ commands.Key address.bucket address.key (key_commands.Delete None)
+  pub deletes : hides e.command ≡ Some address
   pub id : VersionId
   pub marked : e.answer.outcome ≡ outcomes.Deleted (Some id) true
 
@@ -271,24 +264,6 @@ module _ (rules : Rules) (s : State) (entries : List Entry) where
       → IsListed (after rules s entries) address facts
       → WasStoredWith rules s entries address facts ⊎ StayedWith s entries address facts
 
-  -- A list of the objects of a bucket tells the page of those that the entries before it leave, or doesn't succeed,
-  abbrev pub ListsTellWhatIsThere : Type 0
-  ListsTellWhatIsThere =
-      (before later : List Entry) (list : Entry) (name : List ℕ) (asked : ObjectsAsked)
-      → entries ≡ before ++ list ∷ later
-      → list.command ≡ commands.Bucket name (bucket_commands.ListObjects asked)
-      → succeeds list.answer.outcome ≡ true
-      → list.answer.outcome ≡ outcomes.Told (documents.objects name asked (objects_told asked (key_rows (after rules s before) name)))
-
-  -- and one of its versions the page of these.
-  abbrev pub VersionListsTellWhatIsThere : Type 0
-  VersionListsTellWhatIsThere =
-      (before later : List Entry) (list : Entry) (name : List ℕ) (asked : VersionsAsked)
-      → entries ≡ before ++ list ∷ later
-      → list.command ≡ commands.Bucket name (bucket_commands.ListVersions asked)
-      → succeeds list.answer.outcome ≡ true
-      → list.answer.outcome ≡ outcomes.Told (documents.versions name asked (versions_page asked (after rules s before) name))
-
   -- However often data were copied since, a put brought them once, or a completion joined them once, or they stood at the
   -- beginning; but for the type and the metadata that a copy said of them.
   abbrev pub StoredWasBrought : Type 0
@@ -315,6 +290,16 @@ module _ (rules : Rules) (s : State) (entries : List Entry) where
       → reads read.command ≡ Some asked
       → succeeds read.answer.outcome ≡ true
       → IsShown asked.conditions read.answer.outcome
+
+  -- What the reply to a read says of a version in the place of what is kept is what the read asked for.
+  abbrev pub RepliesSayWhatIsAsked : Type 0
+  RepliesSayWhatIsAsked =
+      (before later : List Entry) (read : Entry) (asked : Read) (found : Found (List ℕ)) (selection : Selection)
+      (overrides : List MetadataEntry)
+      → entries ≡ before ++ read ∷ later
+      → reads read.command ≡ Some asked
+      → read.answer.outcome ≡ outcomes.Got found selection overrides
+      → overrides ≡ overrides_of read.command
 
   -- A delete marker hides: a read of the key is answered that there is no such key, and that it is a delete marker, until
   -- an entry changes the versions of the key. That it takes nothing away is said by version: it touches its own id alone.

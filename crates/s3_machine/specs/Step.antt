@@ -18,6 +18,7 @@ use Rattle.s3_versions.specs.declared.version.Data.{Data}
 use Rattle.s3_versions.specs.declared.version.Version.{Version}
 use Rattle.s3_versions.specs.declared.version.Versioning.{Versioning}
 use Rattle.s3_versions.specs.declared.version.Versioning.TheVariants.{Unversioned, Enabled, Suspended}
+use Rattle.s3_versions.specs.Metadata.{Entry}
 use Rattle.s3_versions.specs.Rules.{id_of, is_under, stored, is_delete_marker, current, pick, facts_of, new_id, VersionPut, KeyDeleted, VersionDropped}
 use Rattle.s3_deletions.specs.Deletions.{rows_told}
 use Rattle.s3_uploads.specs.Completion.{completed}
@@ -182,10 +183,11 @@ part_copied t range what =
       body = cut range what.body;
     }
 
--- what comes of a read by what is shown of the version: where no byte of it is in the range, how many bytes it has
-abbrev pub outcome_shown : Found (List ℕ) → Selection → Outcome
-outcome_shown found Outside = outcomes.OutOfRange found.stored.size
-outcome_shown found other = outcomes.Got found other
+-- what comes of a read by what is shown of the version, and what is to be said of it: where no byte of it is in the range, how many
+-- bytes it has
+abbrev pub outcome_shown : Found (List ℕ) → List Entry → Selection → Outcome
+outcome_shown found overrides Outside = outcomes.OutOfRange found.stored.size
+outcome_shown found overrides other = outcomes.Got found other overrides
 
 -- what is shown of a version by the conditions of a read
 abbrev pub shown_by : Conditions → Facts → Result Selection Refusal
@@ -254,7 +256,7 @@ key_done s n t name key (key_commands.Copy copy) = do
 key_done s n t name key (key_commands.Read asked) = do
   read ← pick asked.version (versions_of s name key)
   selection ← shown_by asked.conditions (facts_of read)
-  Ok (s, outcome_shown (found_in (versioning_of s name) read) selection)
+  Ok (s, outcome_shown (found_in (versioning_of s name) read) asked.overrides selection)
 key_done s n t name key (key_commands.ReadTags version) = do
   read ← pick version (versions_of s name key)
   Ok (s, outcomes.NoTags (shown_in (versioning_of s name) (id_of read.0)))

@@ -96,7 +96,7 @@ pub record IsListedOrStayed (rules : Rules) (s : State) (entries : List Entry) (
     (what : Part (List ℕ)) : Type 0 where
   pub last : WasSent rules s entries (record { upload = upload; number = listed.number }) what
       ⊎ StayedPart s entries (record { upload = upload; number = listed.number }) what
-  pub tagged : listed.tag ≡ part_tag what
+  pub tag : listed.tag ≡ part_tag what
 
 -- the state behind the entry that begins an upload
 abbrev pub begun_state : Rules → State → {entries : List Entry} {upload : UploadPlace} {t : ℕ} {asked : Description} → WasBegun entries upload t asked → State

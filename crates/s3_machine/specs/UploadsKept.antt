@@ -2,7 +2,6 @@
 -- to it stand in it and no others do, and what a completion stores are these, which come back as an object.
 use Rattle.std.specs.Prelude.{◌≡◌, ◌≢◌, ◌⊎◌, ◌↔◌, ℕ, ◌<◌, true, false, List, [], ◌∷◌, ◌++◌, length, Contains, Option, Some, None}
 use Rattle.s3_names.specs.declared.ids.VersionId.{VersionId}
-use Rattle.s3_bodies.specs.Payload.{tag_of}
 use Rattle.s3_versions.specs.declared.version.Data.{Data}
 use Rattle.s3_uploads.specs.Parts.{part_row, part_sent, part_tag}
 use Rattle.s3_uploads.specs.declared.listed.ListedPart.{ListedPart}
@@ -12,21 +11,18 @@ use Rattle.s3_records.specs.Catalogue.{versions_of}
 use Rattle.s3_records.specs.OpenUploads.{parts_at}
 use Rattle.s3_listings.specs.declared.asked.PartsAsked.{PartsAsked}
 use Rattle.s3_listings.specs.declared.asked.UploadsAsked.{UploadsAsked}
-use Rattle.s3_listings.specs.Parts.{parts_asked, parts_page}
-use Rattle.s3_listings.specs.Uploads.{uploads_asked, uploads_page}
+use Rattle.s3_listings.specs.Parts.{parts_asked}
+use Rattle.s3_listings.specs.Uploads.{uploads_asked}
 use Rattle.s3_documents.specs.Document as documents
-use Rattle.s3_machine.specs.declared.command.BucketCommand.TheVariants as bucket_commands
-use Rattle.s3_machine.specs.declared.command.Command.TheVariants as commands
 use Rattle.s3_machine.specs.declared.command.Outcome.TheVariants as outcomes
 use Rattle.s3_machine.specs.declared.command.CopyRange.{CopyRange}
 use Rattle.s3_machine.specs.declared.command.Description.{Description}
-use Rattle.s3_machine.specs.declared.command.UploadCommand.TheVariants as upload_commands
 use Rattle.s3_machine.specs.declared.rules.Rules.{Rules}
 use Rattle.s3_machine.specs.Step.{State, part_copied}
-use Rattle.s3_machine.specs.Effects.{Address, UploadPlace, PartPlace, Read, part_in, writes, copies_part, sends, sent, object_of, touched, succeeds}
+use Rattle.s3_machine.specs.Effects.{Address, UploadPlace, PartPlace, Read, part_in, writes, begins, copies_part, sends, sent, object_of, touched, succeeds}
 use Rattle.s3_machine.specs.History.{Entry, after}
 use Rattle.s3_machine.specs.Kept.{LeavesKey, SparesVersion, Stores, ReadsKey, ReadsVersion, IsGiven, WouldGive}
-use Rattle.s3_machine.specs.Uploads.{Begins, Sends, Completes, WasBegun, WasSent, IsOpen, StayedOpen, StayedPart, AreJoined}
+use Rattle.s3_machine.specs.Uploads.{Sends, Completes, WasBegun, WasSent, IsOpen, StayedOpen, StayedPart, AreJoined}
 
 -- a list of all uploads of a bucket
 abbrev pub all_uploads : UploadsAsked
@@ -104,22 +100,24 @@ module _ (rules : Rules) (s : State) (entries : List Entry) where
       → part_in (after rules s entries) part ≡ Some found
       → WasSent rules s entries part found ⊎ StayedPart s entries part found
 
-  -- Who begins an upload is told its id,
+  -- Who begins an upload is told an id, and behind the entry an upload of this id is open with what was asked for,
   abbrev pub BegunIsTold : Type 0
   BegunIsTold =
-      (before later : List Entry) (begin : Entry) (upload : UploadPlace) (asked : Description)
+      (before later : List Entry) (begin : Entry) (address : Address) (asked : Description)
       → entries ≡ before ++ begin ∷ later
-      → Begins upload asked begin
-      → begin.answer.outcome ≡ outcomes.Told (documents.begun upload.address.bucket upload.address.key upload.id)
+      → begins begin.command ≡ Some (address, asked)
+      → succeeds begin.answer.outcome ≡ true
+      → (id : ℕ) × (begin.answer.outcome ≡ outcomes.Told (documents.begun address.bucket address.key id))
+      × IsOpen (after rules s (before ++ begin ∷ [])) (record { address = address; id = id }) begin.moment asked
 
-  -- who sends a part the tag of its bytes,
+  -- who sends a part the tag of the part that stands there behind the entry,
   abbrev pub SentIsTold : Type 0
   SentIsTold =
-      (before later : List Entry) (send : Entry) (bytes : List ℕ)
+      (before later : List Entry) (send : Entry) (part : PartPlace) (bytes : List ℕ)
       → entries ≡ before ++ send ∷ later
-      → sent send.command ≡ Some bytes
-      → succeeds send.answer.outcome ≡ true
-      → send.answer.outcome ≡ outcomes.PartPut (tag_of bytes)
+      → SendsBytes part bytes send
+      → (what : Part (List ℕ)) × (part_in (after rules s (before ++ send ∷ [])) part ≡ Some what)
+      × (send.answer.outcome ≡ outcomes.PartPut (part_tag what))
 
   -- who copies one its tag, its moment and the id of its source, as a read of that would be told it,
   abbrev pub CopiedPartIsTold : Type 0
@@ -173,25 +171,6 @@ module _ (rules : Rules) (s : State) (entries : List Entry) where
       → SparesVersion upload.address id between
       → ReadsVersion upload.address id read
       → (what : Data (List ℕ)) × AreJoined rules s before upload listed what × IsGiven complete.moment what read
-
-  -- A list of the uploads of a bucket tells the page of those that the entries before it leave, or doesn't succeed,
-  abbrev pub UploadListsTellWhatIsThere : Type 0
-  UploadListsTellWhatIsThere =
-      (before later : List Entry) (list : Entry) (name : List ℕ) (asked : UploadsAsked)
-      → entries ≡ before ++ list ∷ later
-      → list.command ≡ commands.Bucket name (bucket_commands.ListUploads asked)
-      → succeeds list.answer.outcome ≡ true
-      → list.answer.outcome ≡ outcomes.Told (documents.uploads name asked (uploads_page asked (after rules s before) name))
-
-  -- and one of the parts of an upload the page of these.
-  abbrev pub PartListsTellWhatIsThere : Type 0
-  PartListsTellWhatIsThere =
-      (before later : List Entry) (list : Entry) (name key : List ℕ) (id : ℕ) (asked : PartsAsked)
-      → entries ≡ before ++ list ∷ later
-      → list.command ≡ commands.Upload name key id (upload_commands.ListParts asked)
-      → succeeds list.answer.outcome ≡ true
-      → list.answer.outcome
-      ≡ outcomes.Told (documents.parts name key id asked (parts_page asked (parts_at (after rules s before) name key id)))
 
   -- From a sound base an upload is listed exactly while it is open: with the moment at which it was begun (no key is empty).
   abbrev pub UploadsAreListedWhileOpen : Type 0

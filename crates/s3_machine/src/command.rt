@@ -1,6 +1,6 @@
 //! What takes a turn at the machine, and what it is answered.
 
-use crate::Configuration;
+use crate::{Configuration, Overrides};
 use s3_bodies::{Body, Payload};
 use s3_calendar::Moment;
 use s3_conditions::{Conditions, Selection, TagList};
@@ -176,6 +176,8 @@ pub struct Source {
 pub struct ObjectRead {
     pub version: Option<VersionId>,
     pub conditions: Conditions,
+    /// What the reply says of the object in the place of what is kept with it.
+    pub overrides: Overrides,
 }
 
 /// The machine's answer to one command.
@@ -237,10 +239,11 @@ pub enum Outcome {
     },
     /// The upload is dropped.
     UploadDropped,
-    /// The version with all its bytes, and what of them is shown.
+    /// The version with all its bytes, what of them is shown, and what is said of it in the place of what is kept with it.
     Got {
         found: Found<Body>,
         selection: Selection,
+        overrides: Overrides,
     },
     /// The version is there, and no byte of it is in the range that was asked for: how many bytes it has (RFC 9110, section
     /// 15.5.17).

@@ -4,10 +4,10 @@ ghost use Rattle.s3_machine.specs.declared.rules.Rules.{Rules};
 ghost use Rattle.s3_machine.specs.Step.{State};
 ghost use Rattle.s3_machine.specs.Bases.{EverySoundHistory, OpeningIsSound, HistoriesLeaveSound, OpeningHasNothing};
 ghost use Rattle.s3_machine.specs.History.{Entry, IsAnswer, Legal, after, after_entry};
-ghost use Rattle.s3_machine.specs.Kept.{EveryHistory, StoredIsKept, VersionsAreKept, StoredIsTold, StoredIsListed, OnlyStoredStands, OnlyStoredIsGiven, ListedIsStored, ListsTellWhatIsThere, VersionListsTellWhatIsThere, StoredWasBrought, ReadsGiveOrFail, ReadsAreJudged, PutsStoreTheirContents, StoredHasSource, PutsAreKept, PutVersionsAreKept, CopiesStoreTheirSource, CopiesAreKept, CopyVersionsAreKept, BodiesAreTagged, CompletionsStoreTheirParts, MarkersHide, QuietEntriesChangeNothing};
+ghost use Rattle.s3_machine.specs.Kept.{EveryHistory, StoredIsKept, VersionsAreKept, StoredIsTold, StoredIsListed, OnlyStoredStands, OnlyStoredIsGiven, ListedIsStored, StoredWasBrought, ReadsGiveOrFail, ReadsAreJudged, RepliesSayWhatIsAsked, PutsStoreTheirContents, StoredHasSource, PutsAreKept, PutVersionsAreKept, CopiesStoreTheirSource, CopiesAreKept, CopyVersionsAreKept, BodiesAreTagged, CompletionsStoreTheirParts, MarkersHide, QuietEntriesChangeNothing};
 ghost use Rattle.s3_machine.specs.Deleted.{NamedKeysAreGone, NamedVersionsAreGone, OtherVersionsStay, DeletionsAreTold, MarkersAreToldOnce};
 ghost use Rattle.s3_machine.specs.Conditional.{AcceptedFindsNone, RefusedFindsOne, StoredKeepsOthersOut, OneIsAccepted, AcceptedFindsMatching, UnmatchedChangesNothing, RefusalsTellWhy};
-ghost use Rattle.s3_machine.specs.UploadsKept.{UploadsAreOpenUntilEnded, PartsAreKept, OnlySentStands, BegunIsTold, SentIsTold, CopiedPartIsTold, CompletedIsTold, CompletionsJoinWhatWasSent, CompletionsAreKept, CompletionVersionsAreKept, UploadListsTellWhatIsThere, PartListsTellWhatIsThere, UploadsAreListedWhileOpen, PartsAreListedWhileStanding, OnlyWritesChangeVersions, PartsHaveTheirBytes, CopiedPartsAreOfTheirSource, PartsHaveASource};
+ghost use Rattle.s3_machine.specs.UploadsKept.{UploadsAreOpenUntilEnded, PartsAreKept, OnlySentStands, BegunIsTold, SentIsTold, CopiedPartIsTold, CompletedIsTold, CompletionsJoinWhatWasSent, CompletionsAreKept, CompletionVersionsAreKept, UploadsAreListedWhileOpen, PartsAreListedWhileStanding, OnlyWritesChangeVersions, PartsHaveTheirBytes, CopiedPartsAreOfTheirSource, PartsHaveASource};
 
 use crate::laws::steps_keep;
 use s3_bodies::Body;
@@ -76,13 +76,14 @@ pub fn stored_is_kept()
 /// so was what a read is given, and no entry since replaced or deleted it. What was stored was put once, or joined once by a
 /// completion, or stood in the base, and may have been copied since: then it has its bytes, and the media type and the metadata that
 /// it had or that a copy said. A read of all of a version is given one, or doesn't succeed; one by conditions is shown what they
-/// select, or doesn't succeed.
+/// select, or doesn't succeed; and what its reply says in the place of what is kept is what the read asked for.
 pub fn only_stored_is_given()
     ensures stands { EverySoundHistory OnlyStoredStands }
     ensures given { EverySoundHistory OnlyStoredIsGiven }
     ensures brought { EverySoundHistory StoredWasBrought }
     ensures or_fails { EveryHistory ReadsGiveOrFail }
     ensures judged { EveryHistory ReadsAreJudged }
+    ensures said { EveryHistory RepliesSayWhatIsAsked }
 {
     changes_are_by_place::<Body>();
     changes_follow_rules::<Body>();
@@ -105,15 +106,6 @@ pub fn stored_is_listed()
     numbers_stay_below::<Body>();
     listed_keys_are_read::<Body>();
 }
-
-/// A law, with nothing to run: in a legal history a list that succeeds tells what the entries before it leave, as the document
-/// of the page that is asked for.
-pub fn lists_tell_what_is_there()
-    ensures objects { EveryHistory ListsTellWhatIsThere }
-    ensures versions { EveryHistory VersionListsTellWhatIsThere }
-    ensures uploads { EveryHistory UploadListsTellWhatIsThere }
-    ensures parts { EveryHistory PartListsTellWhatIsThere }
-{}
 
 /// A law, with nothing to run: which data an entry stores, one clause an operation: a put stores what it brings, a copy what a
 /// read of its source by its conditions would be given, all of it, with the media type and the metadata that the copy says, if it
@@ -179,14 +171,18 @@ pub fn parts_have_a_source()
     ensures sources { PartsHaveASource }
 {}
 
-/// A law, with nothing to run: who begins an upload is told its id, who sends a part the tag of its bytes, who copies one its tag,
-/// its moment and the id of the version that it was, and who completes an upload the tag of what is stored.
+/// A law, with nothing to run: who begins an upload is told the id of one that is open behind the entry, with what was asked for,
+/// who sends a part the tag of the one that stands there behind the entry, who copies one its tag, its moment and the id of the
+/// version that it was, and who completes an upload the tag of what is stored.
 pub fn uploads_are_told()
     ensures begun { EveryHistory BegunIsTold }
     ensures sent { EveryHistory SentIsTold }
     ensures copied { EveryHistory CopiedPartIsTold }
     ensures completed { EveryHistory CompletedIsTold }
-{}
+{
+    changes_are_by_upload::<Body>();
+    puts_are_under_one_number::<Body>();
+}
 
 /// A law, with nothing to run: in a legal history, from whichever base, a completion that succeeds stores the bytes of the parts
 /// that were put last under each listed number since the upload was begun, sent or copied, or that stood in it in the base and

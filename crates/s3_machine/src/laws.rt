@@ -1,5 +1,5 @@
 //! Laws of every step, with nothing to run.
-ghost use Rattle.s3_machine.specs.Laws.{QuietStepsChangeNothing, StepsStayBelow, ConditionsJudgeReads, ListsShowWhatReadsGive, ListsAreTold, VersionListsAreTold, UploadListsAreTold, PartListsAreTold, ClosedUploadsAreRefused, CompletionsGoByTheRule};
+ghost use Rattle.s3_machine.specs.Laws.{QuietStepsChangeNothing, StepsStayBelow, ConditionsJudgeReads, ListsShowWhatReadsGive, ClosedUploadsAreRefused};
 
 use s3_bodies::Body;
 use s3_listings::listed_keys_are_read;
@@ -31,18 +31,7 @@ pub fn lists_show_what_reads_give()
     listed_keys_are_read::<Body>();
 }
 
-/// A law, with nothing to run: a list of a bucket that is there is told as the document of the page that is asked for, and so is
-/// one of the parts of an upload that is open.
-pub fn lists_are_told()
-    ensures objects { ListsAreTold }
-    ensures versions { VersionListsAreTold }
-    ensures uploads { UploadListsAreTold }
-    ensures parts { PartListsAreTold }
-{}
-
-/// A law, with nothing to run: whatever is asked of an upload that isn't open is refused, and the completion of one that is goes
-/// by the rule of uploads.
-pub fn uploads_go_by_their_rules()
-    ensures closed { ClosedUploadsAreRefused }
-    ensures completed { CompletionsGoByTheRule }
+/// A law, with nothing to run: whatever is asked of an upload that isn't open is refused.
+pub fn closed_uploads_are_refused()
+    ensures { ClosedUploadsAreRefused }
 {}

@@ -53,11 +53,11 @@ IsSound p = AreSound p.text.items p.at p.taken p.bodies.items
 
 -- there is room for a text and a body
 abbrev pub HasRoom : Pending → Type 0
-HasRoom p = (vec_len p.text + 6_144 ≤ vec_capacity p.text) × (deque_len p.bodies < deque_capacity p.bodies)
+HasRoom p = (vec_len p.text + 8_192 ≤ vec_capacity p.text) × (deque_len p.bodies < deque_capacity p.bodies)
 
 -- there is, where all is sent
 abbrev pub KeepsRoom : Pending → Type 0
-KeepsRoom p = (6_144 ≤ vec_capacity p.text) × (0 < deque_capacity p.bodies)
+KeepsRoom p = (8_192 ≤ vec_capacity p.text) × (0 < deque_capacity p.bodies)
 
 -- how much text stands in front, before the first body or the end
 abbrev pub text_front : ℕ → ℕ → List Placed → ℕ

@@ -106,12 +106,12 @@ impl Outbox {
         Ok(())
     }
 
-    /// Puts a reply behind the others, in the room that was set aside: its head, of at most 6,144 bytes, which
+    /// Puts a reply behind the others, in the room that was set aside: its head, of at most 8,192 bytes, which
     /// is copied, and its body, which is moved. It takes no memory.
     pub fn push(&mut self, head: &[u8], body: Option<Body>)
         requires room { self.old.has_room ≡ true }
         requires unended { self.old.is_ended ≡ false }
-        requires fits { length head.now ≤ 6_144 }
+        requires fits { length head.now ≤ 8_192 }
         ensures pushed { self.new ≡ with_reply self.old (head.now ++ bytes_of body) }
     {
         self.replies.push(head, body);

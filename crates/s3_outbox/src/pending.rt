@@ -16,7 +16,7 @@ use std::collections::VecDeque;
 use std::io::IoSlice;
 
 /// How long the text of a reply may be, in bytes.
-pub(crate) const TEXT_LIMIT: usize = 6_144;
+pub(crate) const TEXT_LIMIT: usize = 8_192;
 
 /// The texts of replies one behind another, of which the first `at` bytes are sent, and the bodies between
 /// them, of the first of which `taken` bytes are sent. The text's memory is used again once all is sent, until
@@ -62,7 +62,7 @@ impl Pending {
     pub(crate) fn push(&mut self, head: &[u8], body: Option<Body>)
         requires sound { IsSound self.old }
         requires room { HasRoom self.old }
-        requires fits { length head.now ≤ 6_144 }
+        requires fits { length head.now ≤ 8_192 }
         ensures sound { IsSound self.new }
         ensures pushed { waiting self.new ≡ waiting self.old ++ (head.now ++ bytes_of body) }
         ensures text_stays { vec_capacity self.old.text ≤ vec_capacity self.new.text }

@@ -13,7 +13,7 @@ pub trait PrintedReply {
 
     /// Appends the head of the reply, for which there is memory, and gives the body that stands behind it.
     fn print(self, out: &mut Vec<u8>) -> Option<Body>
-        requires room { vec_len out.old + 6_144 ≤ vec_capacity out.old }
+        requires room { vec_len out.old + 8_192 ≤ vec_capacity out.old }
         ensures printed { (head : List ℕ) × (out.new.items ≡ out.old.items ++ head)
             × is_printed self (head ++ bytes_of result) }
         ensures capacity { vec_capacity out.old ≤ vec_capacity out.new };

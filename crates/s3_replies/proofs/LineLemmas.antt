@@ -1,7 +1,8 @@
 -- How header lines are joined.
-use Rattle.std.proofs.Common.{◌≡◌, ℕ, ◌+◌, ◌-◌, ◌*◌, ◌<◌, ◌≤◌, Bool, true, false, List, [], ◌∷◌, ◌++◌, length, get_or, take, drop, map, codes, decimal, refl, sym, ap, ◌∙◌, arith, append-nil, append_assoc}
+use Rattle.std.proofs.Common.{◌≡◌, ℕ, ◌+◌, ◌-◌, ◌*◌, ◌<◌, ◌≤◌, Bool, true, false, not, List, [], ◌∷◌, ◌++◌, length, get_or, take, drop, map, codes, decimal, refl, sym, ap, ◌∙◌, arith, append-nil, append_assoc, None, Some}
 use Rattle.std.specs.Prelude.{if◌then◌else◌}
 use Rattle.std.proofs.lemmas.List.{take_all, map-append, length-append}
+use Rattle.std.proofs.lemmas.List.Elements.{filter-append}
 use Rattle.std.proofs.lemmas.List.Concat.{flat_map-append}
 use Rattle.s3_text.specs.Characters.{crlf, space}
 use Rattle.s3_terms.specs.declared.status.Status.{Status}
@@ -9,7 +10,7 @@ use Rattle.s3_terms.specs.Status.{number_of, reason_phrase}
 use Rattle.s3_versions.specs.Metadata.{Entry, metadata_size}
 use Rattle.s3_replies.specs.declared.lines.Entries.{Entries}
 use Rattle.s3_replies.specs.declared.lines.Entries.TheVariants.{All, Freshness}
-use Rattle.s3_replies.specs.Lines.{Line, print_lines, metadata_line, entries_told, freshness_entries, tells_freshness, quoted, status_line}
+use Rattle.s3_replies.specs.Lines.{Line, print_lines, metadata_line, is_overridden, entries_left, type_left, value_length, entries_told, told_of, all_told, freshness_entries, tells_freshness, quoted, status_line}
 
 -- some lines, and some more behind them
 pub more_lines : (start : List ℕ) (lines more : List Line) → start ++ print_lines lines ++ print_lines more ≡ start ++ print_lines (lines ++ more)
@@ -45,11 +46,12 @@ pub entry_parts : (start n m v e : List ℕ) (entry : Entry) → n ≡ start ++ 
 entry_parts start n m v e entry named middle valued end = line_parts start n m v e entry.name entry.value named middle valued end
 
 -- no entries have no lines
-pub no_entries : (start : List ℕ) (tells : Entries) (entries : List Entry) → length entries < 1 → start ≡ start ++ print_lines (map metadata_line (entries_told tells entries))
+pub no_entries : (start : List ℕ) (tells : Entries) (overrides entries : List Entry) → length entries < 1
+    → start ≡ start ++ print_lines (map metadata_line (told_of tells overrides entries))
 unfolding print_lines
-no_entries start All [] none = sym (append-nil start)
-no_entries start Freshness [] none = sym (append-nil start)
-no_entries start tells (entry ∷ entries) none = absurd (omega (arith, none))
+no_entries start All overrides [] none = sym (append-nil start)
+no_entries start Freshness overrides [] none = sym (append-nil start)
+no_entries start tells overrides (entry ∷ entries) none = absurd (omega (arith, none))
 
 -- entries are the first one and the rest of them
 pub first_entry : (entries : List Entry) (entry : Entry) → 1 ≤ length entries → entry ≡ get_or entries 0 entry → entries ≡ entry ∷ take (length entries - 1) (drop 1 entries)
@@ -60,37 +62,69 @@ one_kept : (is : Bool) (entry : Entry) (entries : List Entry) → (if is then en
 one_kept true entry entries = refl
 one_kept false entry entries = refl
 
+fresh_entries : (entries more : List Entry) → freshness_entries (entries ++ more) ≡ freshness_entries entries ++ freshness_entries more
+fresh_entries entries more = filter-append tells_freshness entries more
+
 -- those that are told are those of the first one and those of the rest
-told_entries : (tells : Entries) (entries : List Entry) (entry : Entry) (rest : List Entry) → entries ≡ entry ∷ rest
-    → entries_told tells entries ≡ entries_told tells (entry ∷ []) ++ entries_told tells rest
-told_entries All entries entry rest split = split
-told_entries Freshness entries entry rest split = ap freshness_entries split ∙ one_kept (tells_freshness entry) entry (freshness_entries rest)
+told_entries : (tells : Entries) (overrides entries : List Entry) (entry : Entry) (rest : List Entry) → entries ≡ entry ∷ rest
+    → told_of tells overrides entries ≡ told_of tells overrides (entry ∷ []) ++ told_of tells overrides rest
+told_entries All overrides entries entry rest split =
+    ap (entries_left overrides) split ∙ one_kept (not (is_overridden overrides entry.name)) entry (entries_left overrides rest)
+told_entries Freshness overrides entries entry rest split =
+    ap (λ (es : List Entry). freshness_entries (entries_left overrides es)) split
+    ∙ ap freshness_entries (one_kept (not (is_overridden overrides entry.name)) entry (entries_left overrides rest))
+    ∙ fresh_entries (entries_left overrides (entry ∷ [])) (entries_left overrides rest)
 
 size-append : (xs ys : List Entry) → metadata_size (xs ++ ys) ≡ metadata_size xs + metadata_size ys
 size-append [] ys = omega arith
 size-append (entry ∷ xs) ys = omega (arith, size-append xs ys)
 
 -- so are their sizes, with the 4 bytes that stand beside each
-pub told_room : (tells : Entries) (entries : List Entry) (entry : Entry) (rest : List Entry) → entries ≡ entry ∷ rest
-    → metadata_size (entries_told tells entries) + 4 * length (entries_told tells entries)
-    ≡ (metadata_size (entries_told tells (entry ∷ [])) + 4 * length (entries_told tells (entry ∷ [])))
-    + (metadata_size (entries_told tells rest) + 4 * length (entries_told tells rest))
-told_room tells entries entry rest split =
-    let one = entries_told tells (entry ∷ []) in
-    let more = entries_told tells rest in
-    let all = told_entries tells entries entry rest split in
+pub told_room : (tells : Entries) (overrides entries : List Entry) (entry : Entry) (rest : List Entry) → entries ≡ entry ∷ rest
+    → metadata_size (told_of tells overrides entries) + 4 * length (told_of tells overrides entries)
+    ≡ (metadata_size (told_of tells overrides (entry ∷ [])) + 4 * length (told_of tells overrides (entry ∷ [])))
+    + (metadata_size (told_of tells overrides rest) + 4 * length (told_of tells overrides rest))
+told_room tells overrides entries entry rest split =
+    let one = told_of tells overrides (entry ∷ []) in
+    let more = told_of tells overrides rest in
+    let all = told_entries tells overrides entries entry rest split in
     omega (arith, ap metadata_size all, ap length all, size-append one more, length-append one more)
 
 -- and their lines
-pub told_lines : (start : List ℕ) (tells : Entries) (entries : List Entry) (entry : Entry) (rest : List Entry) → entries ≡ entry ∷ rest
-    → start ++ print_lines (map metadata_line (entries_told tells (entry ∷ []))) ++ print_lines (map metadata_line (entries_told tells rest))
-    ≡ start ++ print_lines (map metadata_line (entries_told tells entries))
-told_lines start tells entries entry rest split =
-    let one = entries_told tells (entry ∷ []) in
-    let more = entries_told tells rest in
+pub told_lines : (start : List ℕ) (tells : Entries) (overrides entries : List Entry) (entry : Entry) (rest : List Entry) → entries ≡ entry ∷ rest
+    → start ++ print_lines (map metadata_line (told_of tells overrides (entry ∷ []))) ++ print_lines (map metadata_line (told_of tells overrides rest))
+    ≡ start ++ print_lines (map metadata_line (told_of tells overrides entries))
+told_lines start tells overrides entries entry rest split =
+    let one = told_of tells overrides (entry ∷ []) in
+    let more = told_of tells overrides rest in
     more_lines start (map metadata_line one) (map metadata_line more)
     ∙ ap (λ lines. start ++ print_lines lines)
-    (sym (map-append metadata_line one more) ∙ ap (map metadata_line) (sym (told_entries tells entries entry rest split)))
+    (sym (map-append metadata_line one more) ∙ ap (map metadata_line) (sym (told_entries tells overrides entries entry rest split)))
+
+-- where nothing stands in the place of others, all are left
+none_overridden : (entries : List Entry) → entries_left [] entries ≡ entries
+none_overridden [] = refl
+none_overridden (entry ∷ entries) = ap (λ rest. entry ∷ rest) (none_overridden entries)
+
+-- the lines of what is kept and of what stands in the place of some of that
+pub shown_lines : (tells : Entries) (overrides entries : List Entry)
+    → map metadata_line (told_of tells overrides entries) ++ map metadata_line (told_of tells [] overrides)
+    ≡ map metadata_line (all_told tells overrides entries)
+shown_lines tells overrides entries =
+    ap (λ es. map metadata_line (told_of tells overrides entries) ++ map metadata_line (entries_told tells es)) (none_overridden overrides)
+    ∙ sym (map-append metadata_line (told_of tells overrides entries) (entries_told tells overrides))
+
+-- and how much room they take, with the 4 bytes that stand beside each
+pub shown_room : (tells : Entries) (overrides entries : List Entry)
+    → (metadata_size (told_of tells overrides entries) + 4 * length (told_of tells overrides entries))
+    + (metadata_size (told_of tells [] overrides) + 4 * length (told_of tells [] overrides))
+    ≡ metadata_size (all_told tells overrides entries)
+    + 4 * length (all_told tells overrides entries)
+shown_room tells overrides entries =
+    let left = told_of tells overrides entries in
+    let set = entries_told tells overrides in
+    let same = ap (entries_told tells) (none_overridden overrides) in
+    omega (arith, size-append left set, length-append left set, ap metadata_size same, ap length same)
 
 kept_size : (is : Bool) (entry : Entry) (kept all : List Entry) → metadata_size kept ≤ metadata_size all → metadata_size (if is then entry ∷ kept else kept) ≤ metadata_size (entry ∷ all)
 kept_size true entry kept all fits = omega (arith, fits)
@@ -100,13 +134,62 @@ kept_count : (is : Bool) (entry : Entry) (kept all : List Entry) → length kept
 kept_count true entry kept all fits = omega (arith, fits)
 kept_count false entry kept all fits = omega (arith, fits)
 
--- those that tell of freshness are no more than there are, and no larger
-pub size-freshness : (entries : List Entry) → metadata_size (freshness_entries entries) ≤ metadata_size entries
+-- those that are left, and those that tell of freshness, are no more than there are, and no larger
+size-left : (overrides entries : List Entry) → metadata_size (entries_left overrides entries) ≤ metadata_size entries
+size-left overrides [] = omega arith
+size-left overrides (entry ∷ entries) =
+    kept_size (not (is_overridden overrides entry.name)) entry (entries_left overrides entries) entries (size-left overrides entries)
+
+count-left : (overrides entries : List Entry) → length (entries_left overrides entries) ≤ length entries
+count-left overrides [] = omega arith
+count-left overrides (entry ∷ entries) =
+    kept_count (not (is_overridden overrides entry.name)) entry (entries_left overrides entries) entries (count-left overrides entries)
+
+size-freshness : (entries : List Entry) → metadata_size (freshness_entries entries) ≤ metadata_size entries
 size-freshness [] = omega arith
 size-freshness (entry ∷ entries) = kept_size (tells_freshness entry) entry (freshness_entries entries) entries (size-freshness entries)
 
-pub count-freshness : (entries : List Entry) → length (freshness_entries entries) ≤ length entries
+count-freshness : (entries : List Entry) → length (freshness_entries entries) ≤ length entries
 count-freshness [] = omega arith
 count-freshness (entry ∷ entries) = kept_count (tells_freshness entry) entry (freshness_entries entries) entries (count-freshness entries)
 
-pub ruleset freshness_fits = (size-freshness, count-freshness)
+-- so a head has room for all of them
+pub size-told : (tells : Entries) (overrides entries : List Entry) → metadata_size entries ≤ 4_608 → metadata_size overrides ≤ 2_048
+    → metadata_size (all_told tells overrides entries) ≤ 6_656
+size-told All overrides entries kept set =
+    omega (arith, size-append (entries_left overrides entries) overrides, size-left overrides entries, kept, set)
+size-told Freshness overrides entries kept set =
+    let left = entries_left overrides entries in
+    omega (
+      arith,
+      size-append (freshness_entries left) (freshness_entries overrides),
+      size-freshness left,
+      size-left overrides entries,
+      size-freshness overrides,
+      kept,
+      set,
+    )
+
+pub count-told : (tells : Entries) (overrides entries : List Entry) → length entries ≤ 64 → length overrides ≤ 6
+    → length (all_told tells overrides entries) ≤ 70
+count-told All overrides entries kept set =
+    omega (arith, length-append (entries_left overrides entries) overrides, count-left overrides entries, kept, set)
+count-told Freshness overrides entries kept set =
+    let left = entries_left overrides entries in
+    omega (
+      arith,
+      length-append (freshness_entries left) (freshness_entries overrides),
+      count-freshness left,
+      count-left overrides entries,
+      count-freshness overrides,
+      kept,
+      set,
+    )
+
+-- a media type is no longer where another one may stand in its place
+type_length : (overridden : Bool) (kind : List ℕ) → length kind ≤ 255 → value_length (if overridden then None else Some kind) ≤ 255
+type_length true kind fits = omega arith
+type_length false kind fits = fits
+
+pub type_fits : (overrides : List Entry) (kind : List ℕ) → length kind ≤ 255 → value_length (type_left overrides kind) ≤ 255
+type_fits overrides kind fits = type_length (is_overridden overrides (codes "content-type")) kind fits

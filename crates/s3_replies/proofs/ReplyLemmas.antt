@@ -1,7 +1,9 @@
 -- What is known of the texts of replies: each is one text, in which a client sees what came.
-use Rattle.std.proofs.Common.{◌≡◌, ℕ, Bool, true, false, List, ◌++◌, ◌∷◌, [], map, ap, ap₂, refl, sym, ◌∙◌, append_assoc, append-nil, subst, Option, Some, None, codes, length, arith}
+use Rattle.std.proofs.Common.{◌≡◌, ℕ, Bool, true, false, not, List, ◌++◌, ◌∷◌, [], map, ap, ap₂, refl, sym, ◌∙◌, append_assoc, append-nil, subst, Option, Some, None, codes, length, arith}
+use Rattle.std.specs.Prelude.{if◌then◌else◌}
 use Rattle.std.specs.List.{flat_map, list_all}
 use Rattle.std.specs.Fmt.{digits, decimal}
+use Rattle.std.proofs.lemmas.List.{map-append}
 use Rattle.std.proofs.lemmas.List.Concat.{flat_map-append}
 use Rattle.std.proofs.lemmas.List.Elements.{Contains-append_right}
 use Rattle.s3_text.specs.Characters.{crlf}
@@ -13,6 +15,7 @@ use Rattle.s3_terms.specs.Status.{tells_size}
 use Rattle.s3_terms.specs.declared.status.Status.{Status}
 use Rattle.s3_terms.specs.declared.status.Status.TheVariants as statuses
 use Rattle.s3_names.specs.declared.ids.VersionId.{VersionId}
+use Rattle.s3_versions.specs.Metadata.{Entry}
 use Rattle.s3_versions.specs.declared.version.Data.{Data}
 use Rattle.s3_machine.specs.Effects.{succeeds as command_succeeds}
 use Rattle.s3_conditions.specs.declared.conditions.Selection.TheVariants.{Whole, Part, Unchanged, Outside}
@@ -22,13 +25,13 @@ use Rattle.s3_machine.specs.declared.command.Outcome.{Outcome}
 use Rattle.s3_machine.specs.declared.command.Outcome.TheVariants.{Got, Refused}
 use Rattle.s3_replies.specs.declared.context.Context.{Context}
 use Rattle.s3_replies.specs.declared.head.Opening.{Opening}
-use Rattle.s3_replies.specs.Lines.{Line, status_line, print_line, print_lines, flag, optional, metadata_line, quoted}
+use Rattle.s3_replies.specs.Lines.{Line, status_line, print_line, print_lines, flag, optional, metadata_line, is_overridden, entries_left, type_left, quoted}
 use Rattle.s3_replies.specs.Date.{IsHttpDate, IsDateShown}
 use Rattle.s3_replies.specs.Head.{bare, opening_lines, version_lines, print_head}
-use Rattle.s3_replies.specs.Replies.{Reply, alone, beside, behind, front, back, reply_to, shown_at, opening_of, Prints, content_range, got_fields, part, part_fields, sent_body, sized, shown_text, status_in}
+use Rattle.s3_replies.specs.Replies.{Reply, alone, beside, behind, front, back, reply_to, shown_at, opening_of, Prints, content_range, got_fields, metadata_shown, part, part_fields, sent_body, sized, shown_text, status_in}
 use Rattle.s3_replies.specs.Statuses.{reply_status}
-use Rattle.s3_replies.specs.Laws.{Carries, CarriesPart, IsUnbroken, is_unbroken, is_whole_line, tells_success, SuccessIsShown, ObjectsAreCarried, PartsAreCarried, HeadsTellOfReplies}
-use Rattle.s3_replies.proofs.UnbrokenLemmas.{joined, lines_joined, number_unbroken, id_unbroken, date_unbroken, range_unbroken}
+use Rattle.s3_replies.specs.Laws.{AreUnbroken, Carries, CarriesPart, IsUnbroken, is_unbroken, is_whole_line, tells_success, SuccessIsShown, ObjectsAreCarried, PartsAreCarried, HeadsTellOfReplies}
+use Rattle.s3_replies.proofs.UnbrokenLemmas.{both_true, joined, lines_joined, number_unbroken, id_unbroken, date_unbroken, range_unbroken}
 use Rattle.httpdate.specs.Text.{imf_fixdate}
 use Rattle.httpdate.proofs.Theorems.{unix_secs_injective}
 
@@ -89,19 +92,19 @@ reply_shows head_only (behind head body) = ap tells_success (behind_status head.
 
 -- it is the one that its opening says
 opening_shows : (opening : Opening) (modified : Option (List ℕ)) (outcome : Outcome) → status_in (reply_to opening modified outcome) ≡ opening.status
-opening_shows opening modified (Got found Whole) = refl
-opening_shows opening modified (Got found (Part first last)) = refl
-opening_shows opening modified (Got found Unchanged) = refl
-opening_shows opening modified (Got found Outside) = refl
+opening_shows opening modified (Got found Whole overrides) = refl
+opening_shows opening modified (Got found (Part first last) overrides) = refl
+opening_shows opening modified (Got found Unchanged overrides) = refl
+opening_shows opening modified (Got found Outside overrides) = refl
 opening_shows opening modified _ = refl
 
 -- which tells of success where the command succeeds
 status_tells : (outcome : Outcome) → succeeds (reply_status outcome) ≡ command_succeeds outcome
 status_tells (Refused code is_delete_marker) = refusal_fails code
-status_tells (Got found Whole) = refl
-status_tells (Got found (Part first last)) = refl
-status_tells (Got found Unchanged) = refl
-status_tells (Got found Outside) = refl
+status_tells (Got found Whole overrides) = refl
+status_tells (Got found (Part first last) overrides) = refl
+status_tells (Got found Unchanged overrides) = refl
+status_tells (Got found Outside overrides) = refl
 status_tells _ = refl
 
 pub success_is_shown : SuccessIsShown
@@ -126,15 +129,17 @@ flag_unbroken true = refl
 flag_unbroken false = refl
 
 -- the lines that tell of an object's body, in front of its size
-abbrev told : Data (List ℕ) → Option (List ℕ) → List Line
-told stored range =
+abbrev told : Data (List ℕ) → List Entry → Option (List ℕ) → List Line
+told stored overrides range =
     (codes "Accept-Ranges", codes "bytes")
-    ∷ (optional (codes "Content-Range") range ++ (codes "Content-Type", stored.content_type) ∷ [] ++ map metadata_line stored.metadata)
+    ∷ (optional (codes "Content-Range") range
+    ++ optional (codes "Content-Type") (type_left overrides stored.content_type)
+    ++ map metadata_line (metadata_shown overrides stored.metadata))
 
 -- all lines in front of its size
-abbrev lines_in_front : Opening → Found (List ℕ) → List ℕ → Option (List ℕ) → List Line
-lines_in_front opening found modified range =
-    let head = got_fields opening found (Some modified) in opening_lines head ++ version_lines head ++ told found.stored range
+abbrev lines_in_front : Opening → Found (List ℕ) → List Entry → List ℕ → Option (List ℕ) → List Line
+lines_in_front opening found overrides modified range =
+    let head = got_fields opening found overrides (Some modified) in opening_lines head ++ version_lines head ++ told found.stored overrides range
 
 id_line_unbroken : (shown : Option VersionId) → list_all is_whole_line (optional (codes "x-amz-version-id") (shown_text shown)) ≡ true
 id_line_unbroken None = refl
@@ -153,9 +158,9 @@ opening_unbroken opening at =
     lines_joined (first ++ keeps) id (lines_joined first keeps (rw at refl) (flag_unbroken opening.closes)) (rw (number_unbroken opening.number) refl)
 
 -- the lines that tell of a version
-version_unbroken : (opening : Opening) (found : Found (List ℕ)) (modified : List ℕ) → IsUnbroken found.stored → is_unbroken modified ≡ true
-    → list_all is_whole_line (version_lines (got_fields opening found (Some modified))) ≡ true
-version_unbroken opening found modified unbroken since =
+version_unbroken : (opening : Opening) (found : Found (List ℕ)) (overrides : List Entry) (modified : List ℕ) → IsUnbroken found.stored → is_unbroken modified ≡ true
+    → list_all is_whole_line (version_lines (got_fields opening found overrides (Some modified))) ≡ true
+version_unbroken opening found overrides modified unbroken since =
     let id = optional (codes "x-amz-version-id") (shown_text found.shown) in
     let tag : List Line = (codes "ETag", quoted found.stored.tag) ∷ [] in
     let made : List Line = (codes "Last-Modified", modified) ∷ [] in
@@ -165,39 +170,68 @@ version_unbroken opening found modified unbroken since =
     let no_place = lines_joined (id ++ [] ++ []) [] no_marker refl in
     lines_joined (id ++ [] ++ [] ++ [] ++ tag) made (lines_joined (id ++ [] ++ [] ++ []) tag no_place (rw quotes refl)) (rw since refl)
 
+-- the line that tells of its type, where it is told
+type_unbroken : (overridden : Bool) (kind : List ℕ) → is_unbroken kind ≡ true
+    → list_all is_whole_line (optional (codes "Content-Type") (if overridden then None else Some kind)) ≡ true
+type_unbroken true kind are = refl
+type_unbroken false kind are = rw are refl
+
+left_line : (is : Bool) (entry : Entry) (left : List Entry) → is_whole_line (metadata_line entry) ≡ true
+    → list_all is_whole_line (map metadata_line left) ≡ true
+    → list_all is_whole_line (map metadata_line (if is then entry ∷ left else left)) ≡ true
+left_line true entry left one rest = rw (one, rest) refl
+left_line false entry left one rest = rest
+
+left_unbroken : (overrides entries : List Entry) → list_all is_whole_line (map metadata_line entries) ≡ true
+    → list_all is_whole_line (map metadata_line (entries_left overrides entries)) ≡ true
+left_unbroken overrides [] all = refl
+left_unbroken overrides (entry ∷ entries) all =
+    let parts = both_true (is_whole_line (metadata_line entry)) (list_all is_whole_line (map metadata_line entries)) all in
+    left_line (not (is_overridden overrides entry.name)) entry (entries_left overrides entries) parts.0
+    (left_unbroken overrides entries parts.1)
+
+-- those that tell of its metadata, and of what stands in the place of some of that
+shown_unbroken : (overrides entries : List Entry) → list_all is_whole_line (map metadata_line entries) ≡ true → AreUnbroken overrides
+    → list_all is_whole_line (map metadata_line (metadata_shown overrides entries)) ≡ true
+shown_unbroken overrides entries all set =
+    ap (list_all is_whole_line) (map-append metadata_line (entries_left overrides entries) overrides)
+    ∙ lines_joined (map metadata_line (entries_left overrides entries)) (map metadata_line overrides) (left_unbroken overrides entries all) set
+
 -- the lines that tell of its body
-told_unbroken : (stored : Data (List ℕ)) (range : Option (List ℕ)) → IsUnbroken stored → all_unbroken range ≡ true → list_all is_whole_line (told stored range) ≡ true
-told_unbroken stored range unbroken are =
+told_unbroken : (stored : Data (List ℕ)) (overrides : List Entry) (range : Option (List ℕ)) → IsUnbroken stored → AreUnbroken overrides
+    → all_unbroken range ≡ true → list_all is_whole_line (told stored overrides range) ≡ true
+told_unbroken stored overrides range unbroken set are =
     let ranged = optional (codes "Content-Range") range in
-    let kind : List Line = (codes "Content-Type", stored.content_type) ∷ [] in
-    lines_joined (ranged ++ kind) (map metadata_line stored.metadata)
-    (lines_joined ranged kind (range_line_unbroken range are) (rw unbroken.content_type refl))
-    unbroken.metadata
+    let kind = optional (codes "Content-Type") (type_left overrides stored.content_type) in
+    lines_joined (ranged ++ kind) (map metadata_line (metadata_shown overrides stored.metadata))
+    (lines_joined ranged kind (range_line_unbroken range are)
+    (type_unbroken (is_overridden overrides (codes "content-type")) stored.content_type unbroken.content_type))
+    (shown_unbroken overrides stored.metadata unbroken.metadata set)
 
 date_is_unbroken : (t : ℕ) (date : List ℕ) → IsHttpDate t date → is_unbroken date ≡ true
 date_is_unbroken t date is = ap is_unbroken is.2 ∙ date_unbroken is.0.parts
 
 -- the lines in front of the size
-front_unbroken : (opening : Opening) (found : Found (List ℕ)) (modified : List ℕ) (range : Option (List ℕ)) → is_unbroken opening.date ≡ true → is_unbroken modified ≡ true
-    → IsUnbroken found.stored → all_unbroken range ≡ true → list_all is_whole_line (lines_in_front opening found modified range) ≡ true
-front_unbroken opening found modified range at since unbroken are =
-    let head = got_fields opening found (Some modified) in
-    lines_joined (opening_lines head ++ version_lines head) (told found.stored range)
-    (lines_joined (opening_lines head) (version_lines head) (opening_unbroken opening at) (version_unbroken opening found modified unbroken since))
-    (told_unbroken found.stored range unbroken are)
+front_unbroken : (opening : Opening) (found : Found (List ℕ)) (overrides : List Entry) (modified : List ℕ) (range : Option (List ℕ)) → is_unbroken opening.date ≡ true → is_unbroken modified ≡ true
+    → IsUnbroken found.stored → AreUnbroken overrides → all_unbroken range ≡ true → list_all is_whole_line (lines_in_front opening found overrides modified range) ≡ true
+front_unbroken opening found overrides modified range at since unbroken set are =
+    let head = got_fields opening found overrides (Some modified) in
+    lines_joined (opening_lines head ++ version_lines head) (told found.stored overrides range)
+    (lines_joined (opening_lines head) (version_lines head) (opening_unbroken opening at) (version_unbroken opening found overrides modified unbroken since))
+    (told_unbroken found.stored overrides range unbroken set are)
 
 -- the head of a reply that carries bytes of a version, and these bytes behind it
-object_printed : (opening : Opening) (found : Found (List ℕ)) (modified : List ℕ) (range : Option (List ℕ)) (size : ℕ) (body : List ℕ) → tells_size opening.status ≡ true
-    → print_head (record (got_fields opening found (Some modified)) { content_range = range; size = size }) ++ body
-    ≡ status_line opening.status ++ print_lines (lines_in_front opening found modified range) ++ print_line (codes "Content-Length", decimal size) ++ crlf ++ body
+object_printed : (opening : Opening) (found : Found (List ℕ)) (overrides : List Entry) (modified : List ℕ) (range : Option (List ℕ)) (size : ℕ) (body : List ℕ) → tells_size opening.status ≡ true
+    → print_head (record (got_fields opening found overrides (Some modified)) { content_range = range; size = size }) ++ body
+    ≡ status_line opening.status ++ print_lines (lines_in_front opening found overrides modified range) ++ print_line (codes "Content-Length", decimal size) ++ crlf ++ body
 unfolding print_head
-object_printed opening found modified range size body tells =
-    let head = got_fields opening found (Some modified) in
+object_printed opening found overrides modified range size body tells =
+    let head = got_fields opening found overrides (Some modified) in
     let told_size : Line = (codes "Content-Length", decimal size) in
     let front = opening_lines head ++ version_lines head in
-    let whole = front ++ told found.stored range in
-    ap (λ b. status_line opening.status ++ print_lines (front ++ (told found.stored range ++ flag told_size.0 told_size.1 b)) ++ crlf ++ body) tells
-    ∙ ap (λ l. status_line opening.status ++ l ++ crlf ++ body) (ap print_lines (sym (append_assoc front (told found.stored range) (told_size ∷ []))) ∙ last_line whole told_size)
+    let whole = front ++ told found.stored overrides range in
+    ap (λ b. status_line opening.status ++ print_lines (front ++ (told found.stored overrides range ++ flag told_size.0 told_size.1 b)) ++ crlf ++ body) tells
+    ∙ ap (λ l. status_line opening.status ++ l ++ crlf ++ body) (ap print_lines (sym (append_assoc front (told found.stored overrides range) (told_size ∷ []))) ∙ last_line whole told_size)
     ∙ ap (λ r. r ++ crlf ++ body) (sym (append_assoc (status_line opening.status) (print_lines whole) (print_line told_size)))
 
 -- the date of the version that is shown
@@ -205,34 +239,34 @@ modified_of : (t : ℕ) (modified : Option (List ℕ)) → IsDateShown (Some t) 
 modified_of t (Some date) is = (date, is, refl)
 modified_of t None is = absurd is
 
-got_carries : (opening : Opening) (found : Found (List ℕ)) (modified text : List ℕ) → opening.status ≡ statuses.Ok → is_unbroken opening.date ≡ true → is_unbroken modified ≡ true → IsUnbroken found.stored
-    → text ≡ print_head (sized (got_fields opening found (Some modified)) found.stored.body) ++ found.stored.body → Carries found.stored.body text
+got_carries : (opening : Opening) (found : Found (List ℕ)) (overrides : List Entry) (modified text : List ℕ) → opening.status ≡ statuses.Ok → is_unbroken opening.date ≡ true → is_unbroken modified ≡ true → IsUnbroken found.stored
+    → AreUnbroken overrides → text ≡ print_head (sized (got_fields opening found overrides (Some modified)) found.stored.body) ++ found.stored.body → Carries found.stored.body text
 unfolding status_line digits
-got_carries opening found modified text status at since unbroken is =
-    let lines = lines_in_front opening found modified None in
+got_carries opening found overrides modified text status at since unbroken set is =
+    let lines = lines_in_front opening found overrides modified None in
     record {
       lines = lines;
-      whole = front_unbroken opening found modified None at since unbroken refl;
+      whole = front_unbroken opening found overrides modified None at since unbroken set refl;
       printed = is
-          ∙ object_printed opening found modified None (length found.stored.body) found.stored.body (ap tells_size status)
+          ∙ object_printed opening found overrides modified None (length found.stored.body) found.stored.body (ap tells_size status)
           ∙ ap (λ s. status_line s ++ print_lines lines ++ print_line (codes "Content-Length", decimal (length found.stored.body)) ++ crlf ++ found.stored.body) status;
     }
 
-part_carries : (opening : Opening) (found : Found (List ℕ)) (modified : List ℕ) (first last : ℕ) (text : List ℕ) → opening.status ≡ statuses.PartialContent → is_unbroken opening.date ≡ true → is_unbroken modified ≡ true → IsUnbroken found.stored
-    → text ≡ print_head (sized (part_fields opening found (Some modified) first last) (part first last found.stored.body)) ++ part first last found.stored.body
+part_carries : (opening : Opening) (found : Found (List ℕ)) (overrides : List Entry) (modified : List ℕ) (first last : ℕ) (text : List ℕ) → opening.status ≡ statuses.PartialContent → is_unbroken opening.date ≡ true → is_unbroken modified ≡ true → IsUnbroken found.stored
+    → AreUnbroken overrides → text ≡ print_head (sized (part_fields opening found overrides (Some modified) first last) (part first last found.stored.body)) ++ part first last found.stored.body
     → CarriesPart first last found.stored.body text
 unfolding status_line digits
-part_carries opening found modified first last text status at since unbroken is =
+part_carries opening found overrides modified first last text status at since unbroken set is =
     let range = content_range first last (length found.stored.body) in
-    let head = got_fields opening found (Some modified) in
+    let head = got_fields opening found overrides (Some modified) in
     let bytes = part first last found.stored.body in
-    let lines = lines_in_front opening found modified (Some range) in
+    let lines = lines_in_front opening found overrides modified (Some range) in
     record {
       lines = lines;
-      whole = front_unbroken opening found modified (Some range) at since unbroken (range_unbroken first last (length found.stored.body));
-      told = Contains-append_right (opening_lines head ++ version_lines head) (told found.stored (Some range)) (codes "Content-Range", range) (1, omega arith, refl);
+      whole = front_unbroken opening found overrides modified (Some range) at since unbroken set (range_unbroken first last (length found.stored.body));
+      told = Contains-append_right (opening_lines head ++ version_lines head) (told found.stored overrides (Some range)) (codes "Content-Range", range) (1, omega arith, refl);
       printed = is
-          ∙ object_printed opening found modified (Some range) (length bytes) bytes (ap tells_size status)
+          ∙ object_printed opening found overrides modified (Some range) (length bytes) bytes (ap tells_size status)
           ∙ ap (λ s. status_line s ++ print_lines lines ++ print_line (codes "Content-Length", decimal (length bytes)) ++ crlf ++ bytes) status;
     }
 
@@ -242,28 +276,28 @@ printed_as : (answer : Answer) (context : Context) (text : List ℕ) (outcome : 
 printed_as answer context text outcome prints is = subst (λ o. Prints (record { number = answer.number; outcome = o }) context text) is prints
 
 pub objects_are_carried : ObjectsAreCarried
-objects_are_carried answer context text found prints gives unbroken whole =
-    let got = printed_as answer context text (Got found Whole) prints gives in
-    let opening = opening_of answer.number context got.date (Got found Whole) in
+objects_are_carried answer context text found overrides prints gives unbroken set whole =
+    let got = printed_as answer context text (Got found Whole overrides) prints gives in
+    let opening = opening_of answer.number context got.date (Got found Whole overrides) in
     let made = modified_of found.moment got.modified got.shown in
     let bytes = found.stored.body in
     let sent : sent_body context.head_only bytes ≡ bytes = rw whole refl in
-    got_carries opening found made.0 text refl (date_is_unbroken context.moment got.date got.dated) (date_is_unbroken found.moment made.0 made.1) unbroken
+    got_carries opening found overrides made.0 text refl (date_is_unbroken context.moment got.date got.dated) (date_is_unbroken found.moment made.0 made.1) unbroken set
     (got.printed
-    ∙ ap (λ b. print_head (sized (got_fields opening found got.modified) bytes) ++ b) sent
-    ∙ ap (λ m. print_head (sized (got_fields opening found m) bytes) ++ bytes) made.2)
+    ∙ ap (λ b. print_head (sized (got_fields opening found overrides got.modified) bytes) ++ b) sent
+    ∙ ap (λ m. print_head (sized (got_fields opening found overrides m) bytes) ++ bytes) made.2)
 
 pub parts_are_carried : PartsAreCarried
-parts_are_carried answer context text found first last prints gives unbroken whole =
-    let got = printed_as answer context text (Got found (Part first last)) prints gives in
-    let opening = opening_of answer.number context got.date (Got found (Part first last)) in
+parts_are_carried answer context text found overrides first last prints gives unbroken set whole =
+    let got = printed_as answer context text (Got found (Part first last) overrides) prints gives in
+    let opening = opening_of answer.number context got.date (Got found (Part first last) overrides) in
     let made = modified_of found.moment got.modified got.shown in
     let bytes = part first last found.stored.body in
     let sent : sent_body context.head_only bytes ≡ bytes = rw whole refl in
-    part_carries opening found made.0 first last text refl (date_is_unbroken context.moment got.date got.dated) (date_is_unbroken found.moment made.0 made.1) unbroken
+    part_carries opening found overrides made.0 first last text refl (date_is_unbroken context.moment got.date got.dated) (date_is_unbroken found.moment made.0 made.1) unbroken set
     (got.printed
-    ∙ ap (λ b. print_head (sized (part_fields opening found got.modified first last) bytes) ++ b) sent
-    ∙ ap (λ m. print_head (sized (part_fields opening found m first last) bytes) ++ bytes) made.2)
+    ∙ ap (λ b. print_head (sized (part_fields opening found overrides got.modified first last) bytes) ++ b) sent
+    ∙ ap (λ m. print_head (sized (part_fields opening found overrides m first last) bytes) ++ bytes) made.2)
 
 -- what a HEAD leaves out
 abbrev left_out : Reply → List ℕ

@@ -8,7 +8,7 @@ use Rattle.s3_replies.specs.declared.head.Head.{Head}
 use Rattle.s3_replies.specs.declared.head.Opening.{Opening}
 use Rattle.s3_terms.specs.declared.status.Status.{Status}
 use Rattle.s3_terms.specs.Status.{tells_size}
-use Rattle.s3_replies.specs.Lines.{Line, status_line, print_lines, flag, optional, metadata_line, entries_told, quoted, value_of, value_length, room_with}
+use Rattle.s3_replies.specs.Lines.{Line, status_line, print_lines, flag, optional, metadata_line, all_told, quoted, value_of, value_length, room_with}
 use Rattle.s3_versions.specs.Metadata.{Entry, metadata_size}
 
 -- what a head says, in the order of its lines
@@ -32,7 +32,7 @@ pub record Fields : Type 0 where
   pub accepts_ranges : Bool
   pub content_range : Option (List ℕ)
   pub content_type : Option (List ℕ)
-  -- sorted by name
+  -- what is kept with an object, and behind it what stands in the place of some of that
   pub metadata : List Entry
   -- the size of the body, also where that is not sent
   pub size : ℕ
@@ -53,7 +53,7 @@ fields_of head = record {
   accepts_ranges = head.accepts_ranges;
   content_range = value_of head.content_range;
   content_type = value_of head.content_type;
-  metadata = entries_told head.tells head.metadata.now;
+  metadata = all_told head.tells head.overrides.now head.metadata.now;
   size = head.size;
 }
 
@@ -123,8 +123,8 @@ pub record HasRoomFor (head : Fields) : Type 0 where
   pub modified : value_length head.modified ≤ 29
   pub content_range : value_length head.content_range ≤ 68
   pub content_type : value_length head.content_type ≤ 255
-  pub metadata : metadata_size head.metadata ≤ 4_608
-  pub metadata_count : length head.metadata ≤ 64
+  pub metadata : metadata_size head.metadata ≤ 6_656
+  pub metadata_count : length head.metadata ≤ 70
 
 -- how many bytes the lines that tell of a bucket, an object or its version take at most: 20, 32, 12, 10 and 17 beside the values of
 -- `x-amz-version-id`, `x-amz-copy-source-version-id`, `Location`, `ETag` and `Last-Modified`, where these are there, and 27 for

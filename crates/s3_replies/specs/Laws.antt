@@ -10,6 +10,7 @@ use Rattle.s3_terms.specs.declared.dialect.Dialect.{Dialect}
 use Rattle.s3_names.specs.Tags.{tag_text}
 use Rattle.s3_conditions.specs.declared.conditions.Selection.TheVariants.{Whole, Part}
 use Rattle.s3_versions.specs.declared.version.Data.{Data}
+use Rattle.s3_versions.specs.Metadata.{Entry}
 use Rattle.s3_machine.specs.Effects.{succeeds}
 use Rattle.s3_machine.specs.declared.command.Answer.{Answer}
 use Rattle.s3_machine.specs.declared.command.Found.{Found}
@@ -80,6 +81,10 @@ pub record IsUnbroken (stored : Data (List ℕ)) : Type 0 where
   pub content_type : is_unbroken stored.content_type ≡ true
   pub metadata : list_all is_whole_line (map metadata_line stored.metadata) ≡ true
 
+-- nor in what stands in the place of some of that
+abbrev pub AreUnbroken : List Entry → Type 0
+AreUnbroken overrides = list_all is_whole_line (map metadata_line overrides) ≡ true
+
 -- a reply tells of success exactly where the command succeeds
 abbrev pub SuccessIsShown : Type 0
 SuccessIsShown =
@@ -89,15 +94,16 @@ SuccessIsShown =
 -- the bytes of a version that was asked for are carried, unless by the reply to a HEAD
 abbrev pub ObjectsAreCarried : Type 0
 ObjectsAreCarried =
-    (answer : Answer) (context : Context) (text : List ℕ) (found : Found (List ℕ)) → Prints answer context text
-    → answer.outcome ≡ Got found Whole → IsUnbroken found.stored → context.head_only ≡ false
+    (answer : Answer) (context : Context) (text : List ℕ) (found : Found (List ℕ)) (overrides : List Entry) → Prints answer context text
+    → answer.outcome ≡ Got found Whole overrides → IsUnbroken found.stored → AreUnbroken overrides → context.head_only ≡ false
     → Carries found.stored.body text
 
 -- so is a part of them, where one was asked for
 abbrev pub PartsAreCarried : Type 0
 PartsAreCarried =
-    (answer : Answer) (context : Context) (text : List ℕ) (found : Found (List ℕ)) (first last : ℕ) → Prints answer context text
-    → answer.outcome ≡ Got found (Part first last) → IsUnbroken found.stored → context.head_only ≡ false
+    (answer : Answer) (context : Context) (text : List ℕ) (found : Found (List ℕ)) (overrides : List Entry) (first last : ℕ)
+    → Prints answer context text
+    → answer.outcome ≡ Got found (Part first last) overrides → IsUnbroken found.stored → AreUnbroken overrides → context.head_only ≡ false
     → CarriesPart first last found.stored.body text
 
 -- the reply to a HEAD is the one that any other request would get, without its body (RFC 9110, section 9.3.2)

@@ -1,7 +1,7 @@
 -- The status line and the header lines of a reply's head (RFC 9112, sections 4 and 5).
-use Rattle.std.specs.Prelude.{ℕ, ◌+◌, Bool, ◌||◌, if◌then◌else◌, List, [], ◌∷◌, ◌++◌, filter, length, codes, Option, Some, None, option_map}
+use Rattle.std.specs.Prelude.{ℕ, ◌+◌, Bool, not, ◌||◌, if◌then◌else◌, List, [], ◌∷◌, ◌++◌, filter, length, codes, Option, Some, None, option_map}
 use Rattle.std.specs.Borrow.{Bor}
-use Rattle.std.specs.List.{flat_map}
+use Rattle.std.specs.List.{flat_map, list_any}
 use Rattle.std.specs.Fmt.{decimal}
 use Rattle.std.specs.Str.{bytes_eq}
 use Rattle.s3_text.specs.Characters.{crlf, space, double_quote}
@@ -66,7 +66,28 @@ tells_freshness entry = bytes_eq entry.name (codes "cache-control") || bytes_eq 
 abbrev pub freshness_entries : List Entry → List Entry
 freshness_entries entries = filter tells_freshness entries
 
+-- a line of this name stands among those that a read asked its reply to have in the place of what is kept (Amazon S3 API Reference,
+-- GetObject, `response-content-type` and its like)
+abbrev pub is_overridden : List Entry → List ℕ → Bool
+is_overridden overrides name = list_any (λ (entry : Entry). bytes_eq entry.name name) overrides
+
+-- the entries in whose place none of these stands
+abbrev pub entries_left : List Entry → List Entry → List Entry
+entries_left overrides entries = filter (λ (entry : Entry). not (is_overridden overrides entry.name)) entries
+
+-- the media type, unless another one stands in its place
+abbrev pub type_left : List Entry → List ℕ → Option (List ℕ)
+type_left overrides kind = if is_overridden overrides (codes "content-type") then None else Some kind
+
 -- the entries that a head tells
 abbrev pub entries_told : Entries → List Entry → List Entry
 entries_told All entries = entries
 entries_told Freshness entries = freshness_entries entries
+
+-- those of them in whose place none of these stands
+abbrev pub told_of : Entries → List Entry → List Entry → List Entry
+told_of tells overrides entries = entries_told tells (entries_left overrides entries)
+
+-- and behind them these
+abbrev pub all_told : Entries → List Entry → List Entry → List Entry
+all_told tells overrides entries = told_of tells overrides entries ++ entries_told tells overrides

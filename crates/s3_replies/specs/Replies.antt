@@ -11,6 +11,7 @@ use Rattle.s3_names.specs.Ids.{version_id_text}
 use Rattle.s3_names.specs.declared.ids.VersionId.{VersionId}
 use Rattle.s3_conditions.specs.declared.conditions.Selection.{Selection}
 use Rattle.s3_conditions.specs.declared.conditions.Selection.TheVariants.{Whole, Part, Unchanged, Outside}
+use Rattle.s3_versions.specs.Metadata.{Entry}
 use Rattle.s3_documents.specs.Document as documents
 use Rattle.s3_documents.specs.Spelling.{document_text}
 use Rattle.s3_machine.specs.declared.command.Answer.{Answer}
@@ -24,7 +25,7 @@ use Rattle.s3_terms.specs.declared.status.Status.TheVariants as statuses
 use Rattle.s3_replies.specs.Date.{IsHttpDate, IsDateShown}
 use Rattle.s3_replies.specs.Document.{content_type_in, error_document}
 use Rattle.s3_replies.specs.Head.{Fields, bare, print_head, print_with_lines}
-use Rattle.s3_replies.specs.Lines.{freshness_entries}
+use Rattle.s3_replies.specs.Lines.{entries_left, type_left, freshness_entries}
 use Rattle.s3_replies.specs.Statuses.{reply_status}
 
 -- what is sent of a body: a reply to HEAD has none (RFC 9110, section 9.3.2)
@@ -69,17 +70,21 @@ document_fields opening = let base = bare opening in record base { content_type 
 abbrev pub put_fields : Opening → List ℕ → Option VersionId → Fields
 put_fields opening tag shown = let base = bare opening in record base { version_id = shown_text shown; tag = Some tag }
 
+-- the entries of metadata that are kept, and what stands in the place of some of them
+abbrev pub metadata_shown : List Entry → List Entry → List Entry
+metadata_shown overrides entries = entries_left overrides entries ++ overrides
+
 -- GetObject and HeadObject: what is known of the version, and the date at which it was made
-abbrev pub got_fields : Opening → Found (List ℕ) → Option (List ℕ) → Fields
-got_fields opening found modified =
+abbrev pub got_fields : Opening → Found (List ℕ) → List Entry → Option (List ℕ) → Fields
+got_fields opening found overrides modified =
     let base = bare opening in
     record base {
       version_id = shown_text found.shown;
       tag = Some found.stored.tag;
       modified = modified;
       accepts_ranges = true;
-      content_type = Some found.stored.content_type;
-      metadata = found.stored.metadata;
+      content_type = type_left overrides found.stored.content_type;
+      metadata = metadata_shown overrides found.stored.metadata;
     }
 
 -- which bytes of an object a reply has, of how many (RFC 9110, section 14.4)
@@ -91,21 +96,21 @@ abbrev pub part : ℕ → ℕ → List ℕ → List ℕ
 part first last bytes = drop first (take (last + 1) bytes)
 
 -- GetObject and HeadObject of a range: the same, and which bytes these are
-abbrev pub part_fields : Opening → Found (List ℕ) → Option (List ℕ) → ℕ → ℕ → Fields
-part_fields opening found modified first last =
-    let whole = got_fields opening found modified in
+abbrev pub part_fields : Opening → Found (List ℕ) → List Entry → Option (List ℕ) → ℕ → ℕ → Fields
+part_fields opening found overrides modified first last =
+    let whole = got_fields opening found overrides modified in
     record whole { content_range = Some (content_range first last (length found.stored.body)) }
 
 -- the same of a version that is as the reader knows it (RFC 9110, section 15.4.5): nothing of its bytes, and of the entries of
 -- metadata those that tell how long a cache may use them
-abbrev pub unchanged_fields : Opening → Found (List ℕ) → Option (List ℕ) → Fields
-unchanged_fields opening found modified =
+abbrev pub unchanged_fields : Opening → Found (List ℕ) → List Entry → Option (List ℕ) → Fields
+unchanged_fields opening found overrides modified =
     let base = bare opening in
     record base {
       version_id = shown_text found.shown;
       tag = Some found.stored.tag;
       modified = modified;
-      metadata = freshness_entries found.stored.metadata;
+      metadata = freshness_entries (entries_left overrides found.stored.metadata) ++ freshness_entries overrides;
     }
 
 -- CopyObject, CompleteMultipartUpload and GetObjectTagging: a document, and the id of the version that was made, or is read
@@ -145,22 +150,23 @@ outside_reply opening size = beside (outside_fields opening size) (error_documen
 
 -- the moment of the version that is shown, if one is
 abbrev pub shown_at : Outcome → Option ℕ
-shown_at (outcomes.Got found selection) = Some found.moment
+shown_at (outcomes.Got found selection overrides) = Some found.moment
 shown_at other = None
 
 -- a body stands behind the reply: a document whose text is printed with it, or the bytes of a version
 abbrev pub has_body : Outcome → Bool
 has_body (outcomes.Told document) = true
 has_body (outcomes.Completed document tag shown) = true
-has_body (outcomes.Got found selection) = true
+has_body (outcomes.Got found selection overrides) = true
 has_body other = false
 
 -- the reply that shows this of a version
-abbrev pub reply_with : Opening → Option (List ℕ) → Found (List ℕ) → Selection → Reply
-reply_with opening modified found Whole = behind (got_fields opening found modified) found.stored.body
-reply_with opening modified found (Part first last) = behind (part_fields opening found modified first last) (part first last found.stored.body)
-reply_with opening modified found Unchanged = alone (unchanged_fields opening found modified)
-reply_with opening modified found Outside = outside_reply opening found.stored.size
+abbrev pub reply_with : Opening → Option (List ℕ) → Found (List ℕ) → List Entry → Selection → Reply
+reply_with opening modified found overrides Whole = behind (got_fields opening found overrides modified) found.stored.body
+reply_with opening modified found overrides (Part first last) =
+    behind (part_fields opening found overrides modified first last) (part first last found.stored.body)
+reply_with opening modified found overrides Unchanged = alone (unchanged_fields opening found overrides modified)
+reply_with opening modified found overrides Outside = outside_reply opening found.stored.size
 
 -- the reply to what came of a command; that moment is written as this date
 abbrev pub reply_to : Opening → Option (List ℕ) → Outcome → Reply
@@ -171,7 +177,7 @@ reply_to opening modified outcomes.BucketDropped = alone (bare opening)
 reply_to opening modified outcomes.VersioningSet = alone (bare opening)
 reply_to opening modified (outcomes.BucketVersioning versioning) = beside (document_fields opening) (document_text opening.dialect (documents.versioning versioning))
 reply_to opening modified (outcomes.Put tag shown) = alone (put_fields opening tag shown)
-reply_to opening modified (outcomes.Got found selection) = reply_with opening modified found selection
+reply_to opening modified (outcomes.Got found selection overrides) = reply_with opening modified found overrides selection
 reply_to opening modified (outcomes.NoTags shown) = beside (stored_fields opening shown) (document_text opening.dialect documents.tags)
 reply_to opening modified (outcomes.OutOfRange size) = outside_reply opening size
 reply_to opening modified (outcomes.Copied tag moment shown) = beside (stored_fields opening shown) (document_text opening.dialect (documents.copied tag moment))

@@ -22,7 +22,7 @@ fn refused_reply<R: Room>(
     range: Option<RangeText>,
     head_only: bool,
 )
-    requires { R.size out.old + 6_144 ≤ R.capacity out.old }
+    requires { R.size out.old + 8_192 ≤ R.capacity out.old }
     ensures written { R.written out.new ≡ R.written out.old ++ front head_only
         (beside (record (error_fields opening is_delete_marker) { content_range = range }) (error_document opening.dialect code opening.number)) }
     ensures short { R.size out.new ≤ R.size out.old + 482 + room_with 17 range }
@@ -49,7 +49,7 @@ pub(crate) fn error_reply<R: Room>(
     is_delete_marker: bool,
     head_only: bool,
 )
-    requires { R.size out.old + 6_144 ≤ R.capacity out.old }
+    requires { R.size out.old + 8_192 ≤ R.capacity out.old }
     ensures written { R.written out.new ≡ R.written out.old
         ++ front head_only (beside (error_fields opening is_delete_marker) (error_document opening.dialect code opening.number)) }
     ensures short { R.size out.new ≤ R.size out.old + 512 }
@@ -60,7 +60,7 @@ pub(crate) fn error_reply<R: Room>(
 
 /// Appends the whole reply to a read of a range that has no byte of an object of this size.
 pub(crate) fn outside_reply<R: Room>(out: &mut R, opening: Opening, size: u64, head_only: bool)
-    requires { R.size out.old + 6_144 ≤ R.capacity out.old }
+    requires { R.size out.old + 8_192 ≤ R.capacity out.old }
     ensures written { R.written out.new ≡ R.written out.old
         ++ front head_only (outside_reply opening size) }
     ensures capacity { R.capacity out.old ≤ R.capacity out.new }

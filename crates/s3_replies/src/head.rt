@@ -6,8 +6,8 @@ ghost use Rattle.s3_replies.specs.Lines.{print_lines};
 
 use crate::date::DateText;
 use crate::lines::{
-    Entries, write_flag, write_line, write_metadata, write_number, write_optional, write_quoted,
-    write_status,
+    Entries, write_all_metadata, write_flag, write_line, write_number, write_optional,
+    write_quoted, write_status,
 };
 use crate::room::Room;
 use s3_terms::{Dialect, Status};
@@ -15,7 +15,7 @@ use s3_text::number_digits;
 use s3_versions::MetadataEntry;
 
 /// No head is longer.
-pub(crate) const HEAD_MAX: usize = 5_704;
+pub(crate) const HEAD_MAX: usize = 7_776;
 
 /// How a message fared, who answers it, and when: what each head has to say; and how a document behind it is spelled.
 #[derive(Clone, Copy)]
@@ -53,9 +53,11 @@ pub(crate) struct Head<'a> {
     pub accepts_ranges: bool,
     pub content_range: Option<&'a [u8]>,
     pub content_type: Option<&'a [u8]>,
-    /// Sorted by name.
+    /// What is kept with an object, sorted by name.
     pub metadata: &'a [MetadataEntry],
-    /// Which entries of the metadata it tells.
+    /// What stands in the place of some of that.
+    pub overrides: &'a [MetadataEntry],
+    /// Which entries of both it tells.
     pub tells: Entries,
     /// The size of the body, also where that is not sent.
     pub size: u64,
@@ -81,6 +83,7 @@ impl<'a> Head<'a> {
             content_range: None,
             content_type: None,
             metadata: &[],
+            overrides: &[],
             tells: Entries::All,
             size: 0,
         }
@@ -134,20 +137,20 @@ impl<'a> Head<'a> {
         write_optional(out, "Last-Modified", self.modified);
     }
 
-    /// Appends the lines that tell of a body: 5,280 bytes at most, and no more than what they say needs.
+    /// Appends the lines that tell of a body: 7,352 bytes at most, and no more than what they say needs.
     fn write_body_lines<R: Room>(&self, out: &mut R)
         requires fits { HasRoomFor (fields_of self.now) }
-        requires room { R.size out.old + 5_280 ≤ R.capacity out.old }
+        requires room { R.size out.old + 7_352 ≤ R.capacity out.old }
         ensures items { R.written out.new
             ≡ R.written out.old ++ print_lines (body_lines (fields_of self.now)) }
-        ensures bound { R.size out.new ≤ R.size out.old + 5_280 }
+        ensures bound { R.size out.new ≤ R.size out.old + 7_352 }
         ensures short { R.size out.new ≤ R.size out.old + body_room (fields_of self.now) }
         ensures capacity { R.capacity out.old ≤ R.capacity out.new }
     {
         write_flag(out, "Accept-Ranges", "bytes", self.accepts_ranges);
         write_optional(out, "Content-Range", self.content_range);
         write_optional(out, "Content-Type", self.content_type);
-        write_metadata(out, self.metadata, self.tells);
+        write_all_metadata(out, self.metadata, self.overrides, self.tells);
         write_number(out, "Content-Length", self.size, self.status.tells_size());
     }
 }

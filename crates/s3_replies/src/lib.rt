@@ -1,5 +1,5 @@
 //! The printed replies: the exact bytes of every answer of the machine and of every refusal. Nothing
-//! here takes memory or fails: all but the bytes of an object and the document of a list fits into 6,144 bytes.
+//! here takes memory or fails: all but the bytes of an object and the document of a list fits into 8,192 bytes.
 #![tactic(auto)]
 
 mod body;

@@ -1,7 +1,7 @@
 //! The lines of a reply's head, written one after another.
 
 ghost use Rattle.std.specs.Prelude.{◌≡◌, ◌+◌, ◌*◌, ◌≤◌, if◌then◌else◌, ◌++◌, [], ◌∷◌, length, map, option_map, decimal};
-ghost use Rattle.s3_replies.specs.Lines.{status_line, print_lines, flag, optional, quoted, value_of, value_length, room_with, metadata_line, tells_freshness, entries_told};
+ghost use Rattle.s3_replies.specs.Lines.{status_line, print_lines, flag, optional, quoted, value_of, value_length, room_with, metadata_line, tells_freshness, is_overridden, type_left, entries_told, told_of, all_told};
 ghost use Rattle.s3_versions.specs.Metadata.{metadata_size};
 
 use crate::room::Room;
@@ -111,7 +111,7 @@ pub(crate) enum Entries {
 }
 
 impl Entries {
-    /// Whether the entry is told.
+    /// Whether the entry is one of these.
     fn has(self, entry: &MetadataEntry) -> bool
         ensures { entries_told self (entry.now ∷ []) ≡ if result then entry.now ∷ [] else [] }
     {
@@ -144,35 +144,91 @@ fn write_entry<R: Room>(out: &mut R, entry: &MetadataEntry)
     out.write(b"\r\n");
 }
 
+/// Whether a line of this name stands among these.
+pub(crate) fn is_overridden(overrides: &[MetadataEntry], name: &[u8]) -> bool
+    ensures { result ≡ is_overridden overrides.now name.now }
+{
+    match overrides {
+        [] => false,
+        [entry, rest @ ..] => entry.name() == name || is_overridden(rest, name),
+    }
+}
+
+/// The media type, unless another one stands in its place.
+pub(crate) fn type_left<'a>(overrides: &[MetadataEntry], kind: &'a [u8]) -> Option<&'a [u8]>
+    ensures { value_of result ≡ type_left overrides.now kind.now }
+{
+    if is_overridden(overrides, b"content-type") {
+        return None;
+    }
+    Some(kind)
+}
+
+/// Whether the entry is told: it is one of those, and none of the overrides stands in its place.
+fn is_told(entry: &MetadataEntry, tells: Entries, overrides: &[MetadataEntry]) -> bool
+    ensures { told_of tells overrides.now (entry.now ∷ []) ≡ if result then entry.now ∷ [] else [] }
+{
+    !is_overridden(overrides, entry.name()) && tells.has(entry)
+}
+
 /// Appends the line of an entry of metadata, where it is told.
 #[tactic(auto, unfolding(crate::specs::Lines::print_lines))]
-fn write_told<R: Room>(out: &mut R, entry: &MetadataEntry, tells: Entries)
-    requires { R.size out.old + metadata_size (entries_told tells (entry.now ∷ []))
-        + 4 * length (entries_told tells (entry.now ∷ [])) ≤ R.capacity out.old }
+fn write_told<R: Room>(
+    out: &mut R,
+    entry: &MetadataEntry,
+    tells: Entries,
+    overrides: &[MetadataEntry],
+)
+    requires { R.size out.old + metadata_size (told_of tells overrides.now (entry.now ∷ []))
+        + 4 * length (told_of tells overrides.now (entry.now ∷ [])) ≤ R.capacity out.old }
     ensures items { R.written out.new
-        ≡ R.written out.old ++ print_lines (map metadata_line (entries_told tells (entry.now ∷ []))) }
-    ensures bound { R.size out.new ≤ R.size out.old + metadata_size (entries_told tells (entry.now ∷ []))
-        + 4 * length (entries_told tells (entry.now ∷ [])) }
+        ≡ R.written out.old ++ print_lines (map metadata_line (told_of tells overrides.now (entry.now ∷ []))) }
+    ensures bound { R.size out.new ≤ R.size out.old + metadata_size (told_of tells overrides.now (entry.now ∷ []))
+        + 4 * length (told_of tells overrides.now (entry.now ∷ [])) }
     ensures capacity { R.capacity out.old ≤ R.capacity out.new }
 {
-    if tells.has(entry) {
+    if is_told(entry, tells, overrides) {
         write_entry(out, entry);
     }
 }
 
-/// Appends the lines of the entries of metadata that are told.
+/// Appends the lines of the entries of metadata that are told. The cost is linear in both lists.
 #[tactic(auto, unfolding(crate::specs::Lines::print_lines))]
-pub(crate) fn write_metadata<R: Room>(out: &mut R, metadata: &[MetadataEntry], tells: Entries)
-    requires { R.size out.old + metadata_size (entries_told tells metadata.now)
-        + 4 * length (entries_told tells metadata.now) ≤ R.capacity out.old }
+fn write_metadata<R: Room>(
+    out: &mut R,
+    metadata: &[MetadataEntry],
+    tells: Entries,
+    overrides: &[MetadataEntry],
+)
+    requires { R.size out.old + metadata_size (told_of tells overrides.now metadata.now)
+        + 4 * length (told_of tells overrides.now metadata.now) ≤ R.capacity out.old }
     ensures items { R.written out.new
-        ≡ R.written out.old ++ print_lines (map metadata_line (entries_told tells metadata.now)) }
-    ensures bound { R.size out.new ≤ R.size out.old + metadata_size (entries_told tells metadata.now)
-        + 4 * length (entries_told tells metadata.now) }
+        ≡ R.written out.old ++ print_lines (map metadata_line (told_of tells overrides.now metadata.now)) }
+    ensures bound { R.size out.new ≤ R.size out.old + metadata_size (told_of tells overrides.now metadata.now)
+        + 4 * length (told_of tells overrides.now metadata.now) }
     ensures capacity { R.capacity out.old ≤ R.capacity out.new }
 {
     if let [entry, rest @ ..] = metadata {
-        write_told(out, entry, tells);
-        write_metadata(out, rest, tells);
+        write_told(out, entry, tells, overrides);
+        write_metadata(out, rest, tells, overrides);
     }
+}
+
+/// Appends the lines of the entries of metadata that are told, and behind them those that stand in the place of some of them.
+pub(crate) fn write_all_metadata<R: Room>(
+    out: &mut R,
+    metadata: &[MetadataEntry],
+    overrides: &[MetadataEntry],
+    tells: Entries,
+)
+    requires { R.size out.old + metadata_size (all_told tells overrides.now metadata.now)
+        + 4 * length (all_told tells overrides.now metadata.now) ≤ R.capacity out.old }
+    ensures items { R.written out.new
+        ≡ R.written out.old ++ print_lines (map metadata_line (all_told tells overrides.now metadata.now)) }
+    ensures bound { R.size out.new ≤ R.size out.old + metadata_size (all_told tells overrides.now metadata.now)
+        + 4 * length (all_told tells overrides.now metadata.now) }
+    ensures capacity { R.capacity out.old ≤ R.capacity out.new }
+{
+    write_metadata(out, metadata, tells, overrides);
+    write_metadata(out, overrides, tells, &[]);
 }

@@ -26,7 +26,7 @@ use s3_terms::{Code, Dialect};
 
 /// Appends the whole reply that tells of nothing but its status.
 fn bare_reply<R: Room>(out: &mut R, opening: Opening)
-    requires { R.size out.old + 6_144 ≤ R.capacity out.old }
+    requires { R.size out.old + 8_192 ≤ R.capacity out.old }
     ensures written { R.written out.new ≡ R.written out.old ++ print_head (bare opening) }
     ensures capacity { R.capacity out.old ≤ R.capacity out.new }
 {
@@ -36,7 +36,7 @@ fn bare_reply<R: Room>(out: &mut R, opening: Opening)
 
 /// Appends the whole reply that says where a bucket is.
 fn made_reply<R: Room>(out: &mut R, opening: Opening, name: &BucketName)
-    requires { R.size out.old + 6_144 ≤ R.capacity out.old }
+    requires { R.size out.old + 8_192 ≤ R.capacity out.old }
     ensures written { R.written out.new ≡ R.written out.old ++ print_head (made_fields opening name.now) }
     ensures capacity { R.capacity out.old ≤ R.capacity out.new }
 {
@@ -50,7 +50,7 @@ fn made_reply<R: Room>(out: &mut R, opening: Opening, name: &BucketName)
 
 /// Appends the whole reply to what came of a command, where nothing stands behind it.
 fn whole_reply<R: Room>(out: &mut R, opening: Opening, outcome: Outcome, head_only: bool)
-    requires room { R.size out.old + 6_144 ≤ R.capacity out.old }
+    requires room { R.size out.old + 8_192 ≤ R.capacity out.old }
     requires whole { has_body outcome ≡ false }
     ensures written { (modified : Option (List ℕ)) → R.written out.new
         ≡ R.written out.old ++ front head_only (reply_to opening modified outcome) }
@@ -101,7 +101,7 @@ fn headed_reply<R: Room>(
     modified: Option<DateText>,
     head_only: bool,
 ) -> Option<Body>
-    requires room { R.size out.old + 6_144 ≤ R.capacity out.old }
+    requires room { R.size out.old + 8_192 ≤ R.capacity out.old }
     requires body { has_body outcome ≡ true }
     ensures written { R.written out.new
         ≡ R.written out.old ++ front head_only (reply_to opening modified outcome) }
@@ -115,8 +115,14 @@ fn headed_reply<R: Room>(
             shown,
             ..
         } => told_reply(out, opening, document, shown, head_only),
-        Outcome::Got { found, selection } => {
-            got_reply(out, opening, &found, selection, modified, head_only);
+        Outcome::Got {
+            found,
+            selection,
+            overrides,
+        } => {
+            got_reply(
+                out, opening, &found, &overrides, selection, modified, head_only,
+            );
             shown_body(head_only, found.stored.body, selection)
         }
         // All others have no body, and the caller knows that this one has one.
@@ -143,7 +149,7 @@ fn outcome_reply<R: Room>(
     modified: Option<DateText>,
     head_only: bool,
 ) -> Option<Body>
-    requires { R.size out.old + 6_144 ≤ R.capacity out.old }
+    requires { R.size out.old + 8_192 ≤ R.capacity out.old }
     ensures written { R.written out.new
         ≡ R.written out.old ++ front head_only (reply_to opening modified outcome) }
     ensures body { unwrap_or result [] ≡ back head_only (reply_to opening modified outcome) }
@@ -166,10 +172,10 @@ fn modified_in(outcome: &Outcome) -> Option<DateText>
     }
 }
 
-/// Appends the reply to an answer of the machine, 6,144 bytes at most, without its body, and gives that: the caller writes it
+/// Appends the reply to an answer of the machine, 8,192 bytes at most, without its body, and gives that: the caller writes it
 /// behind the reply. A document is printed here; the bytes of an object are moved and not copied. It takes no memory.
 pub fn print_reply<R: Room>(answer: Answer, context: &Context, out: &mut R) -> Option<Body>
-    requires room { R.size out.old + 6_144 ≤ R.capacity out.old }
+    requires room { R.size out.old + 8_192 ≤ R.capacity out.old }
     ensures printed { (head : List ℕ) × (R.written out.new ≡ R.written out.old ++ head)
         × Prints answer context.now (head ++ unwrap_or result []) }
     ensures capacity { R.capacity out.old ≤ R.capacity out.new }
@@ -188,7 +194,7 @@ pub fn print_reply<R: Room>(answer: Answer, context: &Context, out: &mut R) -> O
 /// The reply to a message of this moment that is refused before it comes to the machine; `head_only` says
 /// that the message is a HEAD, and `dialect` how the document is spelled. The reply ends the connection, its id
 /// is zero, and it is 512 bytes long at most.
-pub fn refusal(code: Code, moment: Moment, head_only: bool, dialect: Dialect) -> ArrayVec<u8, 6_144>
+pub fn refusal(code: Code, moment: Moment, head_only: bool, dialect: Dialect) -> ArrayVec<u8, 8_192>
     ensures printed { PrintsRefusal dialect code moment head_only result.items }
     ensures short { length result.items ≤ 512 }
 {
@@ -199,7 +205,7 @@ pub fn refusal(code: Code, moment: Moment, head_only: bool, dialect: Dialect) ->
         date: DateText::of(moment),
         dialect,
     };
-    let mut reply: ArrayVec<u8, 6_144> = ArrayVec::new();
+    let mut reply: ArrayVec<u8, 8_192> = ArrayVec::new();
     error_reply(&mut reply, opening, code, false, head_only);
     reply
 }
@@ -225,7 +231,7 @@ pub const CONTINUE: &[u8] = b"HTTP/1.1 100 Continue\r\n\r\n";
 /// `CONTINUE`, with a clause that says what it is.
 pub fn continue_reply() -> &'static [u8]
     ensures value { result.now ≡ continue_line }
-    ensures fits { length result.now ≤ 6_144 }
+    ensures fits { length result.now ≤ 8_192 }
 {
     CONTINUE
 }

@@ -25,7 +25,7 @@ fn document_head<R: Room>(
     source: Option<VersionId>,
     size: u64,
 )
-    requires { R.size out.old + 6_144 ≤ R.capacity out.old }
+    requires { R.size out.old + 8_192 ≤ R.capacity out.old }
     ensures written { R.written out.new ≡ R.written out.old
         ++ print_head (record (stored_fields opening shown) { source_version_id = shown_text source; size = size }) }
     ensures bound { R.size out.new ≤ R.size out.old + 512 }
@@ -53,7 +53,7 @@ pub(crate) fn short_reply<R: Room>(
     source: Option<VersionId>,
     head_only: bool,
 )
-    requires room { R.size out.old + 6_144 ≤ R.capacity out.old }
+    requires room { R.size out.old + 8_192 ≤ R.capacity out.old }
     requires short { length document.now ≤ 256 }
     ensures written { R.written out.new ≡ R.written out.old
         ++ front head_only (beside (record (stored_fields opening shown) { source_version_id = shown_text source }) document.now) }
@@ -71,7 +71,7 @@ pub(crate) fn told_reply<R: Room>(
     shown: Option<VersionId>,
     head_only: bool,
 ) -> Option<Body>
-    requires { R.size out.old + 6_144 ≤ R.capacity out.old }
+    requires { R.size out.old + 8_192 ≤ R.capacity out.old }
     ensures written { R.written out.new
         ≡ R.written out.old ++ front head_only (behind (stored_fields opening shown) (document_text opening.dialect document)) }
     ensures body { unwrap_or result [] ≡ back head_only (behind (stored_fields opening shown) (document_text opening.dialect document)) }
@@ -89,7 +89,7 @@ pub(crate) fn versioning_reply<R: Room>(
     versioning: Versioning,
     head_only: bool,
 )
-    requires { R.size out.old + 6_144 ≤ R.capacity out.old }
+    requires { R.size out.old + 8_192 ≤ R.capacity out.old }
     ensures written { R.written out.new ≡ R.written out.old
         ++ front head_only (beside (document_fields opening) (document_text opening.dialect (documents.versioning versioning))) }
     ensures capacity { R.capacity out.old ≤ R.capacity out.new }

@@ -2,5 +2,6 @@ pub mod CopySourceLemmas
 pub mod DescriptionLemmas
 pub mod LineLemmas
 pub mod MemoryLemmas
+pub mod OverrideLemmas
 pub mod TokenLemmas
 pub mod UnbrokenLemmas

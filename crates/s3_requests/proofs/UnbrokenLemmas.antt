@@ -60,8 +60,10 @@ use Rattle.s3_requests.specs.Copies.{directive_of, description_by, source_for, o
 use Rattle.s3_requests.specs.Description.{type_sent, content_type_of, encoding_kept, encoding_name, is_kept, is_of_transfer, is_said, name_in, names_of, value_kept, value_sent, entry_of, entries_of, metadata_of, description_of}
 use Rattle.s3_requests.specs.ListArguments.{parts_asked_of}
 use Rattle.s3_requests.specs.UploadArguments.{upload_argument, part_argument}
+use Rattle.s3_requests.specs.Overrides.{overrides_asked}
 use Rattle.s3_requests.specs.Routing.{served, service_plan_for, service_plan, bucket_named, bucket_command_for, creation_plan, plan_in_bucket, plan_of_bucket, read_command, tags_command, delete_command, key_command_for, put_plan, part_copy_plan, parts_plan, complete_plan, asked_for, key_plan, plan_under, plan_of_key, named_plan, route_of}
 use Rattle.s3_requests.specs.Laws.{is_unbroken_entry, AreUnbroken, IsUnbrokenSaid, IsUnbrokenAsk, IsUnbrokenPlan, PlansAreUnbroken, ReadyPlansBringNothing}
+use Rattle.s3_requests.proofs.OverrideLemmas.{overrides_unbroken}
 
 both : (a b : Bool) → (a && b) ≡ true → (a ≡ true) × (b ≡ true)
 both true b is = (refl, is)
@@ -321,11 +323,15 @@ module _ (head : HeadParts) where
   under name key (key_asked.Put said condition) right = (right, tt)
   under name key _ right = ((λ lines. tt), tt)
 
-  read_right : (target : TargetParts) (asked : KeyCommand) → read_command head target ≡ Ok asked → IsRightAsk head asked
+  read_right : (dialect : Dialect) (target : TargetParts) (asked : KeyCommand) → read_command dialect head target ≡ Ok asked → IsRightAsk head asked
   unfolding read_command
-  read_right target asked is =
-      made_of (IsRightAsk head) (version_argument (codes "versionId") target)
-      (λ (v : Option VersionId). key_commands.Read (record { version = v; conditions = conditions_of head })) asked (λ v named. ((λ lines. tt), refl)) is
+  read_right dialect target asked is =
+      let version = bound (version_argument (codes "versionId") target)
+      (λ (v : Option VersionId). overrides_asked dialect target
+      >>= (λ (said : List Entry). Ok (key_commands.Read (record { version = v; conditions = conditions_of head; overrides = said })))) asked is in
+      made_of (IsRightAsk head) (overrides_asked dialect target)
+      (λ (said : List Entry). key_commands.Read (record { version = version.0; conditions = conditions_of head; overrides = said })) asked
+      (λ said made. ((λ lines. overrides_unbroken dialect target said made), refl)) version.2
 
   tags_right : (target : TargetParts) (asked : KeyCommand) → tags_command target ≡ Ok asked → IsRightAsk head asked
   unfolding tags_command
@@ -351,8 +357,8 @@ module _ (head : HeadParts) where
   command_right dialect operations.CopyObject target asked is =
       made_of (IsRightAsk head) (object_copy_of dialect head target) (λ (copy : ObjectCopy). key_commands.Copy copy) asked
       (λ copy made. ((λ lines. copy_unbroken head lines dialect target copy made), refl)) is
-  command_right dialect operations.GetObject target asked is = read_right target asked is
-  command_right dialect operations.HeadObject target asked is = read_right target asked is
+  command_right dialect operations.GetObject target asked is = read_right dialect target asked is
+  command_right dialect operations.HeadObject target asked is = read_right dialect target asked is
   command_right dialect operations.GetObjectTagging target asked is = tags_right target asked is
   command_right dialect operations.DeleteObject target asked is = delete_right dialect target asked is
   command_right dialect operations.CreateMultipartUpload target asked is =

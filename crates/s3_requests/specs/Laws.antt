@@ -30,8 +30,9 @@ abbrev pub IsUnbrokenSaid : Option Description → Type 0
 IsUnbrokenSaid None = Unit {0}
 IsUnbrokenSaid (Some said) = AreUnbroken said.content_type said.metadata
 
--- nor in what is to be stored under a key beside a body, now or when an upload is complete
+-- nor in what is to be stored under a key beside a body, now or when an upload is complete, nor in what a reply is to say
 abbrev pub IsUnbrokenAsk : KeyCommand → Type 0
+IsUnbrokenAsk (key_commands.Read asked) = list_all is_unbroken_entry asked.overrides ≡ true
 IsUnbrokenAsk (key_commands.Copy copy) = IsUnbrokenSaid copy.description
 IsUnbrokenAsk (key_commands.Put put) = AreUnbroken put.content_type put.metadata
 IsUnbrokenAsk (key_commands.Begin begin) = AreUnbroken begin.content_type begin.metadata

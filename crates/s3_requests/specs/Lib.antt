@@ -10,6 +10,7 @@ pub mod ListArguments
 pub mod Memory
 pub mod Name
 pub mod Operations
+pub mod Overrides
 pub mod Protection
 pub mod ReadConditions
 pub mod Routing

@@ -1,6 +1,6 @@
 -- Where routing takes memory: for a long name, and for what an operation copies of the head or of the settings. What is wrong
 -- before that is told, whatever memory there is.
-use Rattle.std.specs.Prelude.{◌≡◌, ℕ, ◌<◌, ◌⊎◌, MatchBool, true, false, not, ◌&&◌, ◌==◌, List, length, codes, None, Result, Ok, Err, IsOk}
+use Rattle.std.specs.Prelude.{◌≡◌, ◌≢◌, ℕ, ◌<◌, ◌⊎◌, MatchBool, true, false, not, ◌&&◌, ◌==◌, List, [], length, codes, None, Result, Ok, Err, IsOk}
 use Rattle.std.specs.Option.{IsSomeAnd}
 use Rattle.std.specs.Result.{IsOkAnd}
 use Rattle.s3_names.specs.Names.{object_key}
@@ -19,6 +19,7 @@ use Rattle.s3_requests.specs.CopySource.{has_source_condition, path_in, version_
 use Rattle.s3_requests.specs.Description.{content_type_of}
 use Rattle.s3_requests.specs.ListArguments.{count_named, has_delimiter}
 use Rattle.s3_requests.specs.Operations.{bucket_operation, is_xml, key_operation}
+use Rattle.s3_requests.specs.Overrides.{overrides_asked, overrides_sent}
 use Rattle.s3_requests.specs.Routing.{bucket_named, served}
 use Rattle.s3_requests.specs.UploadArguments.{part_argument, upload_argument}
 use Rattle.s3_requests.specs.WriteCondition.{tags_wanted}
@@ -44,9 +45,15 @@ TagsTake name head = IsSomeAnd (first_value name head) (λ value. 0 < length val
 abbrev pub ConditionsTake : HeadParts → Type 0
 ConditionsTake head = TagsTake (codes "if-match") head ⊎ TagsTake (codes "if-none-match") head
 
--- a read takes it for its conditions, where its version is one
-abbrev pub ReadTakes : HeadParts → TargetParts → Type 0
-ReadTakes head target = IsOk (version_argument (codes "versionId") target) × ConditionsTake head
+-- a read takes it for what its reply is to say, in the dialect of S3 and where that is something
+abbrev pub OverridesTake : Dialect → TargetParts → Type 0
+OverridesTake dialect target = (is_xml dialect ≡ true) × (overrides_sent target ≢ [])
+
+-- so does a read, where its version is one, and for its conditions where this is right
+abbrev pub ReadTakes : Dialect → HeadParts → TargetParts → Type 0
+ReadTakes dialect head target =
+    IsOk (version_argument (codes "versionId") target)
+    × (OverridesTake dialect target ⊎ (IsOk (overrides_asked dialect target) × ConditionsTake head))
 
 -- the tags that a write wants take it, unless their line is empty
 abbrev pub WantedTake : Dialect → HeadParts → Type 0
@@ -103,15 +110,15 @@ unfoldable pub BucketTakes : Dialect → HeadParts → TargetParts → Type 0
 BucketTakes dialect head target =
     IsOkAnd (served dialect head (bucket_operation (method_of head.method) target)) (λ operation. InBucketTakes dialect operation target)
 
--- an operation on a key takes it for what is said of an object, for the tags of a condition, or for the source of a copy; a put
--- reads its condition where what is said of its object is right
+-- an operation on a key takes it for what is said of an object, for the tags of a condition, for what a reply is to say, or for the
+-- source of a copy; a put reads its condition where what is said of its object is right
 abbrev pub UnderKeyTakes : Dialect → Operation → HeadParts → TargetParts → Type 0
 UnderKeyTakes dialect operations.PutObject head target = DescriptionTakes head
 UnderKeyTakes dialect operations.CreateMultipartUpload head target = DescriptionTakes head
 UnderKeyTakes dialect operations.CopyObject head target = CopyTakes dialect head
 UnderKeyTakes dialect operations.UploadPartCopy head target = PartCopyTakes dialect head target
-UnderKeyTakes dialect operations.GetObject head target = ReadTakes head target
-UnderKeyTakes dialect operations.HeadObject head target = ReadTakes head target
+UnderKeyTakes dialect operations.GetObject head target = ReadTakes dialect head target
+UnderKeyTakes dialect operations.HeadObject head target = ReadTakes dialect head target
 UnderKeyTakes dialect operations.DeleteObject head target = DeleteTakes dialect head target
 UnderKeyTakes dialect operations.CompleteMultipartUpload head target = CompletionTakes dialect head target
 UnderKeyTakes dialect other head target = ⊥

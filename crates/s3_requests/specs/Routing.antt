@@ -29,6 +29,7 @@ use Rattle.s3_requests.specs.Arguments.{version_argument}
 use Rattle.s3_requests.specs.ListArguments.{objects_asked_of, versions_asked_of, uploads_asked_of, parts_asked_of}
 use Rattle.s3_requests.specs.UploadArguments.{upload_argument, part_argument}
 use Rattle.s3_requests.specs.Copies.{object_copy_of, part_copy_of}
+use Rattle.s3_requests.specs.Overrides.{overrides_asked}
 use Rattle.s3_requests.specs.Protection.{is_protected}
 use Rattle.s3_requests.specs.ReadConditions.{conditions_of}
 use Rattle.s3_requests.specs.StorageClass.{asks_for_no_class}
@@ -136,10 +137,11 @@ copy_command dialect head target = do
   Ok (key_commands.Copy copy)
 
 -- GetObject and HeadObject, whose reply leaves the bytes out
-unfoldable pub read_command : HeadParts → TargetParts → Result KeyCommand Code
-read_command head target = do
+unfoldable pub read_command : Dialect → HeadParts → TargetParts → Result KeyCommand Code
+read_command dialect head target = do
   version ← version_argument (codes "versionId") target
-  Ok (key_commands.Read (record { version = version; conditions = conditions_of head }))
+  overrides ← overrides_asked dialect target
+  Ok (key_commands.Read (record { version = version; conditions = conditions_of head; overrides = overrides }))
 
 -- GetObjectTagging
 unfoldable pub tags_command : TargetParts → Result KeyCommand Code
@@ -162,8 +164,8 @@ begin_command dialect head = do
 -- an operation on a key that needs no body, with its arguments
 unfoldable pub key_command_for : Dialect → Operation → HeadParts → TargetParts → Result KeyCommand Code
 key_command_for dialect operations.CopyObject head target = copy_command dialect head target
-key_command_for dialect operations.GetObject head target = read_command head target
-key_command_for dialect operations.HeadObject head target = read_command head target
+key_command_for dialect operations.GetObject head target = read_command dialect head target
+key_command_for dialect operations.HeadObject head target = read_command dialect head target
 key_command_for dialect operations.GetObjectTagging head target = tags_command target
 key_command_for dialect operations.DeleteObject head target = delete_command dialect head target
 key_command_for dialect operations.CreateMultipartUpload head target = begin_command dialect head

@@ -5,7 +5,7 @@ ghost use Rattle.s3_requests.specs.Laws.{PlansAreUnbroken, ReadyPlansBringNothin
 use s3_http_heads::lines_are_whole;
 
 /// A law: no carriage return is in the media type and the metadata that a head asks to be stored, with its body or when an
-/// upload is complete, so that a reply may tell each in a line.
+/// upload is complete, nor in what it asks the reply to a read to say, so that a reply may tell each in a line.
 pub fn plans_are_unbroken()
     ensures { PlansAreUnbroken }
 {

@@ -12,6 +12,7 @@ mod laws;
 mod line_names;
 mod list_arguments;
 mod operations;
+mod overrides;
 mod protection;
 mod read_conditions;
 mod routing;

@@ -12,6 +12,7 @@ use crate::copies::{object_copy, part_copy};
 use crate::description::description_of;
 use crate::list_arguments::{objects_asked, parts_asked, uploads_asked, versions_asked};
 use crate::operations::{Operation, bucket_operation, is_served, key_operation, service_operation};
+use crate::overrides::overrides_asked;
 use crate::protection::is_protected;
 use crate::read_conditions::conditions_of;
 use crate::storage_class::asks_for_no_class;
@@ -102,7 +103,7 @@ pub(crate) enum KeyAsked {
 /// Guide, "Path-style requests"). A refusal is the first fault of routing in the order of
 /// `docs/PROTOCOL.md`; `InternalError` says that memory ran out: for the bucket's name or the key, where one of more than 38
 /// bytes is right, or, behind these, for what an operation copies that this server has. That is what a put, a copy or the
-/// beginning of an upload says of its object, the tags that a condition names, the source of a copy, the texts that a list is
+/// beginning of an upload says of its object, the tags that a condition names, what the reply to a read is to say, the source of a copy, the texts that a list is
 /// asked by, and the region that a new bucket may name. What is judged before that is told, whatever memory there is.
 /// The cost is linear in the names and the query, and in the header lines times the names of
 /// metadata. Of `config` it takes the dialect, by which there are more operations and arguments and by which the documents of
@@ -456,7 +457,9 @@ fn key_command_for(
 {
     match operation {
         Operation::CopyObject => copy_command(alloc, dialect, head, target),
-        Operation::GetObject | Operation::HeadObject => read_command(alloc, head, target),
+        Operation::GetObject | Operation::HeadObject => {
+            read_command(alloc, dialect, head, target)
+        }
         Operation::GetObjectTagging => tags_command(target),
         Operation::DeleteObject => delete_command(alloc, dialect, head, target),
         Operation::CreateMultipartUpload => begin_command(alloc, dialect, head),
@@ -479,14 +482,21 @@ fn copy_command(
 
 // GetObject and HeadObject, with what the head asks of the version.
 #[tactic(auto, unfolding(crate::specs::Routing::read_command))]
-fn read_command(alloc: Global, head: &Head, target: &Target) -> Result<KeyCommand, Code>
-    ensures { FollowsWhere (memory.ReadTakes head.now target.now) result (rules.read_command head.now target.now) }
+fn read_command(
+    alloc: Global,
+    dialect: Dialect,
+    head: &Head,
+    target: &Target,
+) -> Result<KeyCommand, Code>
+    ensures { FollowsWhere (memory.ReadTakes dialect head.now target.now) result (rules.read_command dialect head.now target.now) }
 {
     let version = version_argument(target, b"versionId")?;
+    let overrides = overrides_asked(alloc, dialect, target)?;
     let conditions = conditions_of(alloc, head)?;
     Ok(KeyCommand::Read(ObjectRead {
         version,
         conditions,
+        overrides,
     }))
 }
 

@@ -1,3 +1,4 @@
+pub mod BaseLemmas
 pub mod RoundLemmas
 pub mod ServedLemmas
 pub mod ToldLemmas

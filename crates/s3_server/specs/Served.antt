@@ -11,9 +11,9 @@ use Rattle.s3_config.specs.Settings.{Settings}
 use Rattle.s3_settings.specs.declared.options.ServeOptions.{ServeOptions}
 use Rattle.s3_settings.specs.Devices.{AppendsBeginning}
 use Rattle.s3_records.specs.Catalogue.{opening}
-use Rattle.s3_records.specs.Places.{AreBelow}
 use Rattle.s3_store.specs.Steps.{Standing, opened}
 use Rattle.s3_keepers.specs.Begun.{HasBuckets}
+use Rattle.s3_machine.specs.Bases.{IsSoundBase}
 use Rattle.s3_machine.specs.History.{Legal, after}
 use Rattle.s3_machine.specs.Rules.{rules_of}
 use Rattle.s3_journal.specs.RecordedStore.{Journal, KeepsHistory}
@@ -98,11 +98,11 @@ entries_lines earlier [] = []
 entries_lines earlier (count ∷ counts) = entries_line (earlier + count) ++ entries_lines (earlier + count) counts
 
 -- The store with which a server begins: without a folder it has the first buckets and no more, and its next entry is the first one.
--- In a folder it is what a keeper opened: the first buckets are there, and its next entry has a number above those of all entries that made
--- the versions there.
+-- In a folder it is what a keeper opened: the first buckets are there, and it is a sound base for entries from its next one on, so
+-- that all that is known of histories from one holds of its own.
 abbrev pub IsBegun : Option (Bor (List ℕ)) → Settings → Standing → Type 0
 IsBegun None settings base = base ≡ opened (opening settings.buckets)
-IsBegun (Some path) settings base = HasBuckets settings.buckets base.state × AreBelow base.number base.state
+IsBegun (Some path) settings base = HasBuckets settings.buckets base.state × IsSoundBase base.state base.number
 
 -- so with the settings, on the address, from the store and in as many rounds as the options ask for; and the output, over what it holds
 -- before and after, gained a line with an address, and for each round one with the number of the entries so far

@@ -96,11 +96,16 @@ impl<S: Service> Arrivals<S> {
 impl<S: Service> Worker<'_, S> {
     /// Takes a connection that waits, if it may, and gives one up where another worker wants its slot.
     pub(crate) fn take_and_give_up(&mut self, now: &Now) {
-        if self.arrivals.has_waiting && !self.slots.is_full() && self.take_stance(now) {
+        if self.may_take() && self.take_stance(now) {
             self.take_one(now);
         }
         self.let_in(now);
         self.give_up_one(now);
+    }
+
+    // Whether a connection may wait, none that was taken has no slot yet, and one more may come.
+    fn may_take(&self) -> bool {
+        self.arrivals.has_waiting && !self.arrivals.has_one() && self.slots.may_await()
     }
 
     // Takes a stance towards those that wait, and answers whether it takes one of them. With more than its share it
@@ -118,10 +123,10 @@ impl<S: Service> Worker<'_, S> {
         !self.arrivals.are_left()
     }
 
-    // Takes a connection that waits, if none has no slot yet, and leaves the others: a worker that took all that wait
-    // would serve them alone.
+    // Takes a connection that waits, if one more may come, and leaves the others: a worker that took all that wait would
+    // serve them alone. It is awaited before it is taken, so that no worker takes one that is too many.
     fn take_one(&mut self, now: &Now) {
-        if self.arrivals.has_one() {
+        if !self.slots.await_one() {
             return;
         }
         match S::accept(&mut self.held.door) {
@@ -130,6 +135,7 @@ impl<S: Service> Worker<'_, S> {
                 self.arrivals.may_make_room = true;
             }
             Err(refused) => {
+                self.slots.await_none();
                 self.arrivals.has_waiting = self.recover(refused, now);
                 self.arrivals.stance = Stance::Shares;
             }
@@ -223,7 +229,7 @@ impl<S: Service> Worker<'_, S> {
         }
     }
 
-    // Holds this connection, which is counted, and answers whether it does.
+    // Holds this connection, which is counted now, and answers whether it does.
     fn hold(&mut self, arrival: S::Arrival, now: &Now) -> bool {
         let Some(number) = self.slots.count_one() else {
             self.turn_away(arrival);

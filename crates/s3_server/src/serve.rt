@@ -2,13 +2,13 @@
 
 ghost use Rattle.std.specs.Prelude.{◌≡◌, ◌⊎◌, ◌≤◌, length, Some, None, IfOk, IfErr, OnErr, OnOk};
 ghost use Rattle.s3_records.specs.Catalogue.{opening};
+ghost use Rattle.s3_machine.specs.Bases.{IsSoundBase};
 ghost use Rattle.s3_store.specs.Steps.{opened};
 ghost use Rattle.s3_settings.specs.Devices.{IsTold};
 ghost use Rattle.s3_settings.specs.Fault.{line_of};
 ghost use Rattle.s3_settings.specs.declared.fault.Fault.{Fault};
 ghost use Rattle.s3_server.specs.Serve.{IsServeFault, IsFolderFault, IsKeptFault, IsModeFault, IsToldFault};
 ghost use Rattle.s3_keepers.specs.Begun.{HasBuckets};
-ghost use Rattle.s3_records.specs.Places.{AreBelow};
 ghost use Rattle.s3_server.specs.Served.{WasAskedToListen, HasServedAs, HasServedAndTold, HasServedSo, IsToldInPart, IsToldPlace, most_rounds};
 
 use crate::jobs::{Jobs, all_jobs};
@@ -303,6 +303,7 @@ fn serve_store<
 }
 
 // A store over the records in a folder.
+#[tactic(auto, using(crate::proofs::BaseLemmas::basing))]
 fn found_store<'a, D: FolderKeeper>(
     alloc: Global,
     folders: &D,
@@ -310,7 +311,7 @@ fn found_store<'a, D: FolderKeeper>(
     config: &Config,
 ) -> Result<Store<D::Kept>, Fault<'a>>
     ensures buckets { IfOk result (λ store. HasBuckets config.now.buckets store.state) }
-    ensures below { IfOk result (λ store. AreBelow store.number store.state) }
+    ensures sound { IfOk result (λ store. IsSoundBase store.state store.number) }
     ensures refused { IfErr result (IsFolderFault (Some path.entry)) }
 {
     match folders.open(alloc, path, config.buckets()) {

@@ -2,12 +2,14 @@
 
 use std::sync::atomic::{AtomicBool, AtomicU64, Ordering};
 
-/// How many connections came and are held, what the most is of both, how many workers hold them, how many of these want
-/// a slot that another one may give, and how many offer one; and whether what keeps the records has failed. All workers
-/// count in one, so that no clause can tell what a call finds; tests tell it of one worker.
+/// How many connections came, how many came or are awaited, and how many are held; how many may come, and may be held, at
+/// most; how many workers hold them, how many of these want a slot that another one may give, and how many offer one; and
+/// whether what keeps the records has failed. All workers count in one, so that no clause can tell what a call finds;
+/// tests tell it of one worker.
 #[derive(Drop)]
 pub struct Slots {
     came: AtomicU64,
+    awaited: AtomicU64,
     most: Option<u64>,
     held: AtomicU64,
     most_held: u64,
@@ -23,6 +25,7 @@ impl Slots {
     pub fn new(most: Option<u64>, most_held: u64) -> Slots {
         Slots {
             came: AtomicU64::new(0),
+            awaited: AtomicU64::new(0),
             most,
             held: AtomicU64::new(0),
             most_held,
@@ -33,7 +36,35 @@ impl Slots {
         }
     }
 
-    /// Counts a connection, and answers its number, from 1; `None` where it is one too many.
+    /// Whether one more connection may be awaited: fewer came or are awaited than may come at most.
+    pub fn may_await(&self) -> bool {
+        match self.most {
+            Some(most) => self.awaited.load(Ordering::SeqCst) < most,
+            None => true,
+        }
+    }
+
+    /// Awaits a connection, if one more may be, and answers whether it does. A worker awaits one before it takes it, so that
+    /// no more are taken than may come. Once it is there it is counted; where none is there it is awaited no longer.
+    pub fn await_one(&self) -> bool {
+        let Some(most) = self.most else {
+            return true;
+        };
+        if self.awaited.fetch_add(1, Ordering::SeqCst) < most {
+            return true;
+        }
+        self.await_none();
+        false
+    }
+
+    /// One that was awaited, and isn't counted, is awaited no longer.
+    pub fn await_none(&self) {
+        if self.has_end() {
+            self.awaited.fetch_sub(1, Ordering::SeqCst);
+        }
+    }
+
+    /// Counts a connection that was awaited, and answers its number, from 1; `None` where it is one too many.
     pub fn count_one(&self) -> Option<u64> {
         let before = self.came.fetch_add(1, Ordering::SeqCst);
         match self.most {

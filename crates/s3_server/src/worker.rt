@@ -162,7 +162,7 @@ impl<'a, S: Service> Worker<'a, S> {
             0
         } else if is_short || self.slots.lacks_slots() {
             SHORT_PATIENCE
-        } else if self.arrivals.has_waiting && !self.slots.is_full() {
+        } else if self.arrivals.has_waiting && self.slots.may_await() {
             0
         } else if self.slots.has_end() {
             SHORT_PATIENCE
@@ -208,9 +208,12 @@ impl<'a, S: Service> Worker<'a, S> {
             .serve(self.service, self.slots, buffer, registry, key, now);
     }
 
-    // Lets all go, and asks for nothing more.
+    // Lets all go, and asks for nothing more. Another worker may take the one that was taken here and isn't counted.
     fn let_all_go(&mut self) {
         self.ask_no_more();
+        if self.arrivals.has_one() {
+            self.slots.await_none();
+        }
         self.held.let_unheard_go(self.service, self.slots);
         for key in 0..self.held.capacity() {
             self.held.let_go(self.slots, key);

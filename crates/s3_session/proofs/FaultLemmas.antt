@@ -9,7 +9,7 @@ use Rattle.s3_machine.specs.declared.turn.Turn.{Turn}
 use Rattle.s3_replies.specs.declared.context.Context.{Context}
 use Rattle.s3_session.specs.Verdict as verdicts
 use Rattle.s3_session.specs.Decision.{Decision, Judges, refused_message}
-use Rattle.s3_session.specs.Fault.{FaultsStay, HasNoFault, IsFault, OneFault, most_counted}
+use Rattle.s3_session.specs.Fault.{FaultsStay, HasNoFault, OneFault, most_counted}
 use Rattle.s3_session.specs.Laws.{InvitationsStay, OneVerdict, VerdictsStay}
 use Rattle.s3_session.specs.Walk.{Message, Walks}
 use Rattle.s3_session.specs.Output.{Behind, Exchange, Past, Standing, Over, Waiting, is_dead, is_waiting, message_of}
@@ -25,22 +25,22 @@ use Rattle.s3_session.proofs.StayLemmas.{HeadsStay}
 use Rattle.s3_session.proofs.WalkLemmas.{walks_on}
 
 -- the moments of messages
-abbrev moments_of : List Message → List ℕ
+abbrev pub moments_of : List Message → List ℕ
 moments_of messages = map (λ (m : Message). m.context.moment) messages
 
-moments_same : (xs : List Exchange) → moments_of (map message_of xs) ≡ map (λ (x : Exchange). x.context.moment) xs
+pub moments_same : (xs : List Exchange) → moments_of (map message_of xs) ≡ map (λ (x : Exchange). x.context.moment) xs
 moments_same [] = refl
 moments_same (x ∷ xs) = ap (λ (ms : List ℕ). x.context.moment ∷ ms) (moments_same xs)
 
 -- a message that was refused stands there
-refused_there : (settings : Settings) (session : Connection) (ended : Bool) (moment : ℕ) (code : Code) (left : Option (List ℕ)) (waiting : List Turn) (last : List ℕ)
+pub refused_there : (settings : Settings) (session : Connection) (ended : Bool) (moment : ℕ) (code : Code) (left : Option (List ℕ)) (waiting : List Turn) (last : List ℕ)
     → session.stage ≡ stages.Closed (closings.Refused moment code) → HereOr settings session ended left waiting last
     → (rest : List ℕ) × (left ≡ Some rest) × IsRefusedWith code settings ended rest (moment ∷ []) waiting last
 refused_there settings session ended moment code (Some rest) waiting last at h =
     (rest, refl, subst (λ (s : Stage). StandsAt s settings session ended rest waiting last) at h)
 refused_there settings session ended moment code None waiting last at h = let same = sym at ∙ h.0 in absurd (cc)
 
-refused_is : (stage : Stage) (code : Code) → refused_at stage ≡ Some code → (moment : ℕ) × (stage ≡ stages.Closed (closings.Refused moment code))
+pub refused_is : (stage : Stage) (code : Code) → refused_at stage ≡ Some code → (moment : ℕ) × (stage ≡ stages.Closed (closings.Refused moment code))
 refused_is (stages.Closed (closings.Refused moment told)) code is = (moment, ap (λ (c : Code). stages.Closed (closings.Refused moment c)) (cc))
 refused_is _ code is = absurd (cc)
 
@@ -54,6 +54,18 @@ few_late (stages.Waiting context) = omega arith
 few_late (stages.Closed closings.Replied) = omega arith
 few_late (stages.Closed (closings.Refused moment code)) = omega arith
 few_late (stages.Closed (closings.Died moment)) = omega arith
+
+-- where these moments are those of the messages that were answered, and of one more or none, no fault stands behind more than were answered
+pub not_behind : (ms : List Message) (xs : List Exchange) (moment : ℕ) (more late : List ℕ)
+    → (moments_of ms ++ moment ∷ []) ++ more ≡ map (λ (x : Exchange). x.context.moment) xs ++ late → length late ≤ 1 → ¬ (length xs < length ms)
+not_behind ms xs moment more late moments few fewer =
+    let whole = ap length moments in
+    let mine = length-append (moments_of ms ++ moment ∷ []) more in
+    let first = length-append (moments_of ms) (moment ∷ []) in
+    let its = length-append (map (λ (x : Exchange). x.context.moment) xs) late in
+    let all = length-map ms (λ (m : Message). m.context.moment) in
+    let answered = length-map xs (λ (x : Exchange). x.context.moment) in
+    omega (arith, whole, mine, first, its, few, all, answered, fewer)
 
 -- some bytes with more behind them were some bytes
 some_before : (left : Option (List ℕ)) (more rest : List ℕ) → option_map (λ (b : List ℕ). b ++ more) left ≡ Some rest → (b : List ℕ) × (left ≡ Some b)
@@ -86,14 +98,14 @@ module _ (one : OneVerdict) (settings : Settings) (ended : Bool) (p : Standing) 
       let t = told settings ended bytes late at waiting last p lives here agrees in
       t.stands ∙ ap (λ (e : Decision). standing_told e.0) (one settings at ended bytes t.decision d t.judged judged)
 
-  abbrev Meets : ℕ → ℕ → Type 0
+  abbrev pub Meets : ℕ → ℕ → Type 0
   Meets answered sound = ((p ≡ Waiting) × (answered < sound)) ⊎ ((p ≡ Over) × (left ≡ Some rest))
 
   meets_more : (n m : ℕ) → Meets n m → Meets (suc n) (suc m)
   meets_more n m (inl waits) = let fewer = waits.1 in inl (waits.0, omega (arith, fewer))
   meets_more n m (inr over) = inr over
 
-  meets : (ms : List Message) (xs : List Exchange) (bytes : List ℕ) → Walks settings ended bytes ms (Some rest) → Walks settings ended bytes (map message_of xs) left
+  pub meets : (ms : List Message) (xs : List Exchange) (bytes : List ℕ) → Walks settings ended bytes ms (Some rest) → Walks settings ended bytes (map message_of xs) left
       → (moments_of ms ++ moment ∷ []) ++ more ≡ (map (λ (x : Exchange). x.context.moment) xs ++ late) ++ later → Meets (length xs) (length ms)
   meets [] [] bytes v w moments =
       let same : rest ≡ bytes = cc in
@@ -127,30 +139,7 @@ module _ (one : OneVerdict) (settings : Settings) (ended : Bool) (p : Standing) 
       ]
 
 module _ (settings : Settings) (session : Connection) (past : Past) (sent : List ℕ) (h : Stands session settings past sent) where
-  -- the one that was refused
-  pub fault_told : (code : Code) → refused_at session.stage ≡ Some code → IsFault settings past.bytes past.ended past.moments session.answered code
-  fault_told code is =
-      let xs = h.serves.exchanges in
-      let at = (refused_is session.stage code is).1 in
-      let a = refused_there settings session past.ended (refused_is session.stage code is).0 code h.left h.waiting h.last at h.here in
-      let r = a.2.0 in
-      record {
-        messages = map message_of xs;
-        rest = a.0;
-        moment = r.moment;
-        head_only = r.head_only;
-        walk = subst (λ (l : Option (List ℕ)). Walks settings past.ended past.bytes (map message_of xs) l) a.1 h.serves.walk;
-        judged = subst (λ (c : Code). Judges settings r.moment past.ended a.0 (refused_message c r.head_only)) a.2.1 r.judged;
-        given = (
-          [],
-          append-nil (moments_of (map message_of xs) ++ r.moment ∷ [])
-              ∙ ap (λ (ms : List ℕ). ms ++ r.moment ∷ []) (moments_same xs)
-              ∙ sym (h.serves.moments ∙ ap (λ (ms : List ℕ). map (λ (x : Exchange). x.context.moment) xs ++ ms) (ap moment_at at ∙ r.asked)),
-        );
-        counted = h.counted ∙ ap (λ (n : ℕ). min n most_counted) (ap length h.serves.answers ∙ length-map xs (λ (x : Exchange). x.answer) ∙ sym (length-map xs message_of));
-      }
-
-  -- and where none was, there is none
+  -- where none was refused, there is none
   module _ (one : OneVerdict) (lives : is_dead (standing_of session) ≡ false) (none : refused_at session.stage ≡ None) (moments : List ℕ) (front : IsPrefix past.moments moments)
       (all : is_waiting (standing_of session) ≡ true → moments ≡ past.moments) where
     -- by what stands behind the messages that were answered, in these bytes
@@ -163,16 +152,7 @@ module _ (settings : Settings) (session : Connection) (past : Past) (sent : List
         let given = ap (λ (ms : List ℕ). ms ++ front.0) h.serves.moments in
         elim (meets one settings ended (standing_of session) lives code f.head_only f.moment f.given.0 f.rest f.judged left late front.0 h.waiting h.last behind
         f.messages xs bytes f.walk walk (f.given.1 ∙ sym front.1 ∙ given)) [
-          | inl waits ↦
-              (let whole = ap length (f.given.1 ∙ all (ap is_waiting waits.0) ∙ h.serves.moments) in
-              let mine = length-append (moments_of f.messages ++ f.moment ∷ []) f.given.0 in
-              let first = length-append (moments_of f.messages) (f.moment ∷ []) in
-              let its = length-append (map (λ (x : Exchange). x.context.moment) xs) late in
-              let few = few_late session.stage in
-              let ms = length-map f.messages (λ (m : Message). m.context.moment) in
-              let es = length-map xs (λ (x : Exchange). x.context.moment) in
-              let fewer = waits.1 in
-              omega (arith, whole, mine, first, its, few, ms, es, fewer))
+          | inl waits ↦ not_behind f.messages xs f.moment f.given.0 late (f.given.1 ∙ all (ap is_waiting waits.0) ∙ h.serves.moments) (few_late session.stage) waits.1
           | inr over ↦
               (let b = there f.rest over.1 in
               let here = subst (λ (l : Option (List ℕ)). HereOr settings session past.ended l h.waiting h.last) b.1 h.here in

@@ -12,6 +12,7 @@ pub mod InvitationLemmas
 pub mod LackLemmas
 pub mod NotedLemmas
 pub mod OutputLemmas
+pub mod PrintedFaultLemmas
 pub mod ReadBackLemmas
 pub mod ReceivingLemmas
 pub mod ReplayLemmas

@@ -24,15 +24,15 @@ use Rattle.s3_machine.specs.declared.command.Outcome.{Outcome}
 use Rattle.s3_machine.specs.declared.command.Outcome.TheVariants.{Got}
 use Rattle.s3_machine.specs.Bases.{EverySoundHistory, OpeningIsSound, HasNothing, OpeningHasNothing}
 use Rattle.s3_machine.specs.Step.{State, described}
-use Rattle.s3_machine.specs.Effects.{Address, Object, UploadPlace, Read, brought, brings, sent, whole, given, given_whole, found_object, succeeds}
+use Rattle.s3_machine.specs.Effects.{Address, Object, UploadPlace, Read, brought, brings, sent, whole, said_of, given, given_whole, found_object, succeeds}
 use Rattle.s3_machine.specs.History.{Entry, Legal}
-use Rattle.s3_machine.specs.Kept.{LeavesKey, SparesVersion, WasStored, Stayed, Stood, IsGiven, Puts, WasPut, WasDescribed, Copies, EveryHistory, StoredIsKept, VersionsAreKept, OnlyStoredIsGiven, StoredWasBrought, ReadsGiveOrFail, ReadsAreJudged, PutsAreKept, PutVersionsAreKept, CopiesAreKept, CopyVersionsAreKept}
+use Rattle.s3_machine.specs.Kept.{LeavesKey, SparesVersion, WasStored, Stayed, Stood, IsGiven, Puts, WasPut, WasDescribed, Copies, EveryHistory, StoredIsKept, VersionsAreKept, OnlyStoredIsGiven, StoredWasBrought, ReadsGiveOrFail, ReadsAreJudged, RepliesSayWhatIsAsked, PutsAreKept, PutVersionsAreKept, CopiesAreKept, CopyVersionsAreKept}
 use Rattle.s3_machine.specs.Uploads.{Completes, WasBegun, IsListedPart, begun_state, PartsFrom, FromBegun, FromBase, AreJoined, WasJoined}
 use Rattle.s3_machine.specs.UploadsKept.{CompletionsAreKept, CompletionVersionsAreKept, PartsHaveASource}
 use Rattle.s3_machine.specs.Rules.{rules_of}
 use Rattle.s3_machine.specs.declared.rules.Rules.{Rules}
 use Rattle.s3_replies.specs.Lines.{metadata_line}
-use Rattle.s3_replies.specs.Laws.{Carries, IsUnbroken, PartsAreCarried, is_unbroken, is_whole_line, tells_success, SuccessIsShown, ObjectsAreCarried, TagsAreUnbroken}
+use Rattle.s3_replies.specs.Laws.{AreUnbroken, Carries, IsUnbroken, PartsAreCarried, is_unbroken, is_whole_line, tells_success, SuccessIsShown, ObjectsAreCarried, TagsAreUnbroken}
 use Rattle.s3_payloads.specs.Laws.{WholePayloadsAreBodies}
 use Rattle.s3_session.specs.Output.{Exchange, IsReplied}
 use Rattle.s3_session.specs.Laws.{SoundMessages}
@@ -79,8 +79,8 @@ found_there : (given : Option (Found (List ℕ))) → is_some given ≡ true →
 found_there (Some found) is = (found, refl)
 found_there None is = absurd (cc)
 
-got_given : (outcome : Outcome) (found : Found (List ℕ)) → given_whole outcome ≡ Some found → outcome ≡ Got found Whole
-got_given (Got other Whole) found is = let same : other ≡ found = cc in ap (λ (f : Found (List ℕ)). Got f Whole) same
+got_given : (outcome : Outcome) (found : Found (List ℕ)) → given_whole outcome ≡ Some found → outcome ≡ Got found Whole (said_of outcome)
+got_given (Got other Whole said) found is = let same : other ≡ found = cc in ap (λ (f : Found (List ℕ)). Got f Whole said) same
 got_given _ found is = absurd (cc)
 
 whole_is_given : (outcome : Outcome) (found : Found (List ℕ)) → given_whole outcome ≡ Some found → given outcome ≡ Some found
@@ -106,6 +106,7 @@ pub record LawsBelow : Type 0 where
   pub sound : OpeningIsSound
   pub nothing : OpeningHasNothing
   pub given : EverySoundHistory OnlyStoredIsGiven
+  pub said : EveryHistory RepliesSayWhatIsAsked
   pub origins : EverySoundHistory StoredWasBrought
 
 -- what the messages of a replay are
@@ -192,13 +193,27 @@ module _ (laws : LawsBelow) (settings : Settings) (exchanges : List Exchange) (a
       (unbroken_origin laws.tags (rules_of settings) (opening settings.buckets) (entries_from earlier) brought.0 (laws.nothing settings.buckets) past brought.1)
       brought.2
 
+  -- what its reply says in the place of what is kept is so, too
+  unbroken_said : (earlier later : List Exchange) (read : Exchange) (asked : Read) (found : Found (List ℕ)) (selection : Selection)
+      (said : List MetadataEntry)
+      → exchanges ≡ earlier ++ read ∷ later → AsksFor asked read → read.answer.outcome ≡ Got found selection said → AreUnbroken said
+  unbroken_said earlier later read asked found selection said at asks shows =
+      let is = of_history laws.said (entries_from earlier) (entries_from later) (entry_of read) asked found selection said
+      (ap entries_from at ∙ entries_at earlier read later) asks.read shows in
+      let brings = (all_of_two (λ (x : Exchange). BringsUnbroken x.command) earlier (read ∷ later)
+      (subst (AllByRecursion (λ (x : Exchange). BringsUnbroken x.command)) at are.unbroken)).1.0 in
+      subst AreUnbroken (sym is) brings.overrides
+
   -- so its reply carries it, where it is given all of it
   given_carried : (earlier later : List Exchange) (read : Exchange) (asked : Read) (found : Found (List ℕ))
       → exchanges ≡ earlier ++ read ∷ later → AsksFor asked read → given_whole read.answer.outcome ≡ Some found
       → Carries found.stored.body read.reply
   given_carried earlier later read asked found at asks gives =
-      laws.objects read.answer read.context read.reply found (replied_at earlier later read at) (got_given read.answer.outcome found gives)
-      (unbroken_given earlier later read asked found at asks (whole_is_given read.answer.outcome found gives)) asks.with_bytes
+      let shows = got_given read.answer.outcome found gives in
+      laws.objects read.answer read.context read.reply found (said_of read.answer.outcome) (replied_at earlier later read at) shows
+      (unbroken_given earlier later read asked found at asks (whole_is_given read.answer.outcome found gives))
+      (unbroken_said earlier later read asked found Whole (said_of read.answer.outcome) at asks shows)
+      asks.with_bytes
 
   -- the same of data that it is given
   data_carried : (earlier later : List Exchange) (read : Exchange) (asked : Read) (t : ℕ) (what : Data (List ℕ))
@@ -247,13 +262,15 @@ module _ (laws : LawsBelow) (settings : Settings) (exchanges : List Exchange) (a
       )
 
   -- what is selected of it, the reply carries
-  shown_of : (read : Exchange) (found : Found (List ℕ)) (selection : Selection) → IsReplied read → read.answer.outcome ≡ Got found selection
-      → given read.answer.outcome ≡ Some found → IsUnbroken found.stored → read.context.head_only ≡ false → Shows selection found.stored.body read.reply
-  shown_of read found Whole replied shows gives unbroken whole = laws.objects read.answer read.context read.reply found replied shows unbroken whole
-  shown_of read found (Part first last) replied shows gives unbroken whole =
-      laws.parts read.answer read.context read.reply found first last replied shows unbroken whole
-  shown_of read found Unchanged replied shows gives unbroken whole = let none = sym (ap given shows) ∙ gives in absurd (cc)
-  shown_of read found Outside replied shows gives unbroken whole = let none = sym (ap given shows) ∙ gives in absurd (cc)
+  shown_of : (read : Exchange) (found : Found (List ℕ)) (selection : Selection) (said : List MetadataEntry)
+      → IsReplied read → read.answer.outcome ≡ Got found selection said
+      → given read.answer.outcome ≡ Some found → IsUnbroken found.stored → AreUnbroken said → read.context.head_only ≡ false → Shows selection found.stored.body read.reply
+  shown_of read found Whole said replied shows gives unbroken says whole =
+      laws.objects read.answer read.context read.reply found said replied shows unbroken says whole
+  shown_of read found (Part first last) said replied shows gives unbroken says whole =
+      laws.parts read.answer read.context read.reply found said first last replied shows unbroken says whole
+  shown_of read found Unchanged said replied shows gives unbroken says whole = let none = sym (ap given shows) ∙ gives in absurd (cc)
+  shown_of read found Outside said replied shows gives unbroken says whole = let none = sym (ap given shows) ∙ gives in absurd (cc)
 
   shown_before : EveryHistory ReadsAreJudged → OnlyStoredIsShown settings exchanges
   shown_before judges earlier later read asked at asks told =
@@ -270,8 +287,9 @@ module _ (laws : LawsBelow) (settings : Settings) (exchanges : List Exchange) (a
         stored_since (rules_of settings) (opening settings.buckets) before object (laws.nothing settings.buckets) was.2,
         shown.selection,
         shown.selects,
-        shown_of read shown.found shown.selection replied shown.shows shown.gives
-            (unbroken_given earlier later read asked shown.found at asks shown.gives) asks.with_bytes,
+        shown_of read shown.found shown.selection shown.overrides replied shown.shows shown.gives
+            (unbroken_given earlier later read asked shown.found at asks shown.gives)
+            (unbroken_said earlier later read asked shown.found shown.selection shown.overrides at asks shown.shows) asks.with_bytes,
       )
 
   -- ---- puts

@@ -23,9 +23,9 @@ use Rattle.s3_machine.specs.declared.command.BucketCommand.TheVariants as bucket
 use Rattle.s3_machine.specs.declared.command.KeyCommand.TheVariants as key_commands
 use Rattle.s3_machine.specs.declared.command.UploadCommand.TheVariants as upload_commands
 use Rattle.s3_machine.specs.Step.{data_of}
-use Rattle.s3_machine.specs.Effects.{Address, Read, source_read, begins, brought, copies, sent}
+use Rattle.s3_machine.specs.Effects.{Address, Read, source_read, begins, brought, copies, overrides_of, sent}
 use Rattle.s3_replies.specs.declared.context.Context.{Context}
-use Rattle.s3_replies.specs.Laws.{IsUnbroken, TagsAreUnbroken, is_unbroken, is_whole_line}
+use Rattle.s3_replies.specs.Laws.{AreUnbroken, IsUnbroken, TagsAreUnbroken, is_unbroken, is_whole_line}
 use Rattle.s3_replies.specs.Lines.{metadata_line}
 use Rattle.s3_session.specs.Laws.{IsSound, SoundMessages}
 use Rattle.s3_session.specs.Output.{Exchange, message_of}
@@ -36,11 +36,12 @@ use Rattle.s3_session.proofs.SoundLemmas.{admitted_route}
 abbrev pub SaysUnbroken : Description → Type 0
 SaysUnbroken said = (is_unbroken said.content_type ≡ true) × (list_all is_whole_line (map metadata_line said.metadata) ≡ true)
 
--- all that the command brings along is so, what it begins an upload with, and what it says of a copy
+-- all that the command brings along is so, what it begins an upload with, what it says of a copy, and what a reply is to say
 pub record BringsUnbroken (command : Command) : Type 0 where
   pub whole : (what : Data (List ℕ)) → brought command ≡ Some what → IsUnbroken what
   pub begun : (address : Address) (asked : Description) → begins command ≡ Some (address, asked) → SaysUnbroken asked
   pub said : (asked : Read) (said : Description) → copies command ≡ Some (asked, Some said) → SaysUnbroken said
+  pub overrides : AreUnbroken (overrides_of command)
 
 told_whole : (entries : List Entry) → list_all is_unbroken_entry entries ≡ true → list_all is_whole_line (map metadata_line entries) ≡ true
 told_whole entries all = list_all-map is_whole_line metadata_line entries ∙ all
@@ -56,12 +57,13 @@ pub made_of : {A : Type 0} (rule : Result A Code) (make : A → Command) (comman
 made_of (Ok a) make command made = (a, refl, cc)
 made_of (Err code) make command made = absurd (cc)
 
--- the command brings nothing along, begins no upload, and copies to no key
+-- the command brings nothing along, begins no upload, copies to no key, and reads nothing
 pub record BringsNothing (command : Command) : Type 0 where
   pub put : brought command ≡ None
   pub part : sent command ≡ None
   pub begun : begins command ≡ None
   pub copied : copies command ≡ None
+  pub unread : overrides_of command ≡ []
 
 nothing_is_unbroken : (command : Command) → BringsNothing command → BringsUnbroken command
 nothing_is_unbroken command nothing =
@@ -69,6 +71,7 @@ nothing_is_unbroken command nothing =
       whole = λ what is. let none : None ≡ Some what = sym nothing.put ∙ is in absurd (cc);
       begun = λ address asked is. let none : None ≡ Some (address, asked) = sym nothing.begun ∙ is in absurd (cc);
       said = λ asked told is. let none : None ≡ Some (asked, Some told) = sym nothing.copied ∙ is in absurd (cc);
+      overrides = ap (λ (entries : List Entry). list_all is_whole_line (map metadata_line entries)) nothing.unread;
     }
 
 -- where a rule of nothing passes, what follows is made
@@ -81,16 +84,16 @@ pub read_brings : (plan : Plan) (payload : List ℕ) (command : Command) → rea
 unfolding command_of
 read_brings (plans.CreateBucket name region) payload command reads made =
     subst BringsNothing (passed _ (commands.Bucket name bucket_commands.Create) command made)
-    (record { put = refl; part = refl; begun = refl; copied = refl })
+    (record { put = refl; part = refl; begun = refl; copied = refl; unread = refl })
 read_brings (plans.PutVersioning name dialect) payload command reads made =
     let read = made_of _ (λ (status : VersioningStatus). commands.Bucket name (bucket_commands.PutVersioning status)) command made in
-    subst BringsNothing read.2 (record { put = refl; part = refl; begun = refl; copied = refl })
+    subst BringsNothing read.2 (record { put = refl; part = refl; begun = refl; copied = refl; unread = refl })
 read_brings (plans.Complete bucket key id dialect condition) payload command reads made =
     let read = made_of _ (λ (listed : List ListedPart). commands.Upload bucket key id (upload_commands.Complete listed condition)) command made in
-    subst BringsNothing read.2 (record { put = refl; part = refl; begun = refl; copied = refl })
+    subst BringsNothing read.2 (record { put = refl; part = refl; begun = refl; copied = refl; unread = refl })
 read_brings (plans.DeleteObjects bucket) payload command reads made =
     let read = made_of _ (commands.DeleteObjects bucket) command made in
-    subst BringsNothing read.2 (record { put = refl; part = refl; begun = refl; copied = refl })
+    subst BringsNothing read.2 (record { put = refl; part = refl; begun = refl; copied = refl; unread = refl })
 read_brings _ payload command reads made = absurd (cc)
 
 -- what a command stores beside a body may stand in lines
@@ -102,6 +105,7 @@ stores_unbroken tags (commands.Key bucket key (key_commands.Put put)) unbroken =
       whole = λ what is. let stored : data_of put ≡ what = cc in subst IsUnbroken stored all;
       begun = λ address began is. absurd (cc);
       said = λ asked said is. absurd (cc);
+      overrides = refl;
     }
 stores_unbroken tags (commands.Key bucket key (key_commands.Begin begin)) unbroken =
     record {
@@ -110,6 +114,7 @@ stores_unbroken tags (commands.Key bucket key (key_commands.Begin begin)) unbrok
           let said : begin ≡ asked = ap (λ (it : Address × Description). it.1) (same_Some (record { bucket = bucket; key = key }, begin) (address, asked) is) in
           subst SaysUnbroken said (unbroken.0, told_whole begin.metadata unbroken.1);
       said = λ asked said is. absurd (cc);
+      overrides = refl;
     }
 stores_unbroken tags (commands.Key bucket key (key_commands.Copy copy)) unbroken =
     record {
@@ -118,9 +123,22 @@ stores_unbroken tags (commands.Key bucket key (key_commands.Copy copy)) unbroken
       said = λ asked said is.
           copy_said copy.description unbroken said
           (ap (λ (it : Read × Option Description). it.1) (same_Some (source_read copy.source, copy.description) (asked, Some said) is));
+      overrides = refl;
+    }
+stores_unbroken tags (commands.Key bucket key (key_commands.Read asked)) unbroken =
+    record {
+      whole = λ what is. absurd (cc);
+      begun = λ address asked is. absurd (cc);
+      said = λ asked told is. absurd (cc);
+      overrides = told_whole asked.overrides unbroken;
     }
 stores_unbroken tags _ unbroken =
-    record { whole = λ what is. absurd (cc); begun = λ address asked is. absurd (cc); said = λ asked told is. absurd (cc) }
+    record {
+      whole = λ what is. absurd (cc);
+      begun = λ address asked is. absurd (cc);
+      said = λ asked told is. absurd (cc);
+      overrides = refl;
+    }
 
 planned : TagsAreUnbroken → (plan : Plan) (payload : List ℕ) (command : Command) → IsUnbrokenPlan plan
     → command_of plan payload ≡ Ok command → BringsUnbroken command

@@ -6,6 +6,7 @@ pub mod Incoming
 pub mod Invitation
 pub mod Laws
 pub mod Output
+pub mod PrintedFault
 pub mod ReadBack
 pub mod Replay
 pub mod Session

@@ -2,6 +2,7 @@
 
 ghost use Rattle.s3_session.specs.ReadBack.{EveryReplay, StoredIsReadBack, VersionsAreReadBack, OnlyStoredIsReadBack, OnlyStoredIsShown, PutsAreReadBack, PutVersionsAreReadBack, CopiesAreReadBack, CopyVersionsAreReadBack, CompletionsAreReadBack, CompletionVersionsAreReadBack, PayloadsAreBrought, PayloadsAreSent};
 ghost use Rattle.s3_session.specs.Fault.{FaultsEnd, FaultsStay, OneFault, RefusedIsNothing};
+ghost use Rattle.s3_session.specs.PrintedFault.{FaultsArePrinted, PrintedAreFaults, TwoEnds};
 ghost use Rattle.s3_session.specs.Laws.{HeadlessAreSilent, HeadsAreDecided, InvitationsStay, OneInvitation, OneOutput, OneVerdict, OneWriting, OutputsStay, VerdictsExist, VerdictsStay, SoundAlone, SoundMessages, SoundIsJudged, SoundWalksAlone};
 ghost use Rattle.s3_session.specs.Stands.{SessionsWrite};
 
@@ -63,6 +64,18 @@ pub fn faults_end()
     verdicts_are_one();
     verdicts_stay();
     invitations_are_final();
+}
+
+/// A law: where a message of a connection is refused, what it has written ends with the refusal of the first such message, with
+/// the code of that fault, as long as memory does not run out. In front of it are the replies to the messages before, and nothing
+/// is behind it. A refusal that ends it so is that of the first fault; and where no more is read, it ends with a refusal or with
+/// a reply that closes. There is nothing to run.
+pub fn faults_are_printed()
+    ensures printed { FaultsArePrinted }
+    ensures told { PrintedAreFaults }
+    ensures ends { TwoEnds }
+{
+    verdicts_are_one();
 }
 
 /// A law: a sound verdict is about a whole message at the front of the bytes, whose head is admitted, whose body

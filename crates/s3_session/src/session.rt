@@ -1,25 +1,20 @@
 //! One connection as a machine. It is fed with bytes as they come, and asks for a turn where a command waits. It is
 //! given the answer, and hands out what it writes.
 
-ghost use Rattle.std.specs.Prelude.{◌≡◌, ◌≢◌, ◌+◌, ◌<◌, ◌≤◌, ℕ, Bool, true, false, List, [], ◌∷◌, ◌++◌, length, take, drop, if◌then◌else◌, IfOk, OnOk, OnErr, IfSome, None};
-ghost use mathlib.Core.List.{IsPrefix};
+ghost use Rattle.std.specs.Prelude.{◌≡◌, ◌≢◌, ◌+◌, ◌<◌, ◌≤◌, ℕ, Bool, true, false, List, [], ◌∷◌, ◌++◌, length, take, drop, if◌then◌else◌, IfOk, OnOk, OnErr};
 ghost use Rattle.s3_config.specs.Settings.{Settings};
 ghost use Rattle.s3_http_heads.specs.Search.{Stands, Holds};
 ghost use Rattle.s3_replies.specs.Replies.{Prints, PrintsRefusal, continue_line, internal_error};
-ghost use Rattle.s3_session.specs.Fault.{HasNoFault, IsFault};
 ghost use Rattle.s3_session.specs.Incoming.{IsIncoming, IsInBody};
 ghost use Rattle.s3_session.specs.declared.incoming.Incoming.{Incoming};
 ghost use Rattle.s3_session.specs.Invitation.{Invites};
-ghost use Rattle.s3_session.specs.Output.{HasText, Over, Past, Reading, ReadsBody, is_closed, is_dead, is_waiting, nothing_yet};
+ghost use Rattle.s3_session.specs.Output.{HasText, Past, Reading, ReadsBody, is_closed, is_dead, is_waiting, nothing_yet};
 ghost use Rattle.s3_session.specs.Session.{Connection, NeedsNext, standing_of};
 ghost use Rattle.s3_session.specs.Stands.{IsReady};
 ghost use Rattle.s3_session.specs.Verified.{IsNoted};
 
-use crate::fault::{Fault, refused_code};
 use crate::incoming::{Progress, Receiving};
-use crate::laws::{
-    inputs_fix_outputs, invitations_are_final, sessions_write, verdicts_are_one, verdicts_stay,
-};
+use crate::laws::{inputs_fix_outputs, invitations_are_final, sessions_write, verdicts_stay};
 use crate::opening::{Opening, open_text};
 use crate::reply::AnswerTo;
 use crate::signer::HeadSigner;
@@ -114,11 +109,11 @@ fn next_behind(closes: bool) -> Next
 #[derive(Drop)]
 pub struct Session {
     pub(crate) search: HeadSearch,
-    stage: Stage,
+    pub(crate) stage: Stage,
     pub(crate) outbox: Outbox,
     is_ended: bool,
     // How many messages were answered; the greatest number where there were more.
-    answered: u64,
+    pub(crate) answered: u64,
     // What is kept of heads that were verified. It decides nothing that is written.
     pub(crate) signer: HeadSigner,
 }
@@ -572,28 +567,5 @@ impl Session {
         ensures { result ≡ inside.is_in_body self.now.stage }
     {
         matches!(self.stage, Stage::Body(_))
-    }
-
-    /// The first of its messages that was refused, if one was. It takes no memory.
-    pub fn fault(&self) -> Option<Fault>
-        ensures some { (settings : Settings) (past : Past) (sent : List ℕ) → inside.Stands self.now settings past sent
-            → IfSome result (λ fault. IsFault settings past.bytes past.ended past.moments fault.message fault.code) }
-        ensures over { result ≢ None → rules.standing_of self.now ≡ Over }
-
-        // Else none is refused, whatever it hears of no more and whatever moments follow; where a command waits, up to its message.
-        ensures none { (settings : Settings) (past : Past) (sent more : List ℕ) (ended : Bool) (moments : List ℕ) → inside.Stands self.now settings past sent
-            → is_dead (rules.standing_of self.now) ≡ false → rules.IsUnheard (rules.standing_of self.now) past more ended
-            → IsPrefix past.moments moments → (is_waiting (rules.standing_of self.now) ≡ true → moments ≡ past.moments)
-            → result ≡ None → HasNoFault settings (past.bytes ++ more) ended moments }
-    {
-        verdicts_are_one();
-        verdicts_stay();
-        invitations_are_final();
-        s3_http_heads::verdicts_stay();
-        payloads_are_judged();
-        Some(Fault {
-            message: self.answered,
-            code: refused_code(&self.stage)?,
-        })
     }
 }

@@ -69,7 +69,7 @@ module _ (s now : State) (name key : List ℕ) (asked : ObjectRead) (facts : Res
   chosen_as h r is = ap (selected_by asked.conditions) (sym h.told) ∙ sym h.is ∙ is
 
   pub read_told : IsChosen → (after : State) (v : Versioning) (selection : Selection) (read : Result (Found (List ℕ)) Refusal) (outcome : Outcome)
-      → chosen ≡ Ok selection → v ≡ versioning_of s name → read ≡ read_as_found v (pick asked.version (versions_of now name key)) → after ≡ now → outcome ≡ got_of selection read
+      → chosen ≡ Ok selection → v ≡ versioning_of s name → read ≡ read_as_found v (pick asked.version (versions_of now name key)) → after ≡ now → outcome ≡ got_of selection asked.overrides read
       → (n t : ℕ) → key_step s n t name key (key_commands.Read asked) ≡ (after, outcome)
   read_told h after v selection read outcome is of reads same got n t = let step = read_shown s n t name key asked selection (chosen_as h (Ok selection) is) in cc
 

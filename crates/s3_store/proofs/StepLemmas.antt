@@ -14,6 +14,7 @@ use Rattle.s3_versions.specs.declared.version.Data.{Data}
 use Rattle.s3_versions.specs.declared.version.Version.{Version}
 use Rattle.s3_versions.specs.declared.version.Versioning.{Versioning}
 use Rattle.s3_versions.specs.declared.version.Versioning.TheVariants.{Unversioned}
+use Rattle.s3_versions.specs.Metadata.{Entry}
 use Rattle.s3_versions.specs.Rules.{stored, stored_in, current, asked_for, id_of, judged, pick, facts_of as version_facts, facts_read, read_as}
 use Rattle.s3_records.specs.declared.records.BucketFacts.{BucketFacts}
 use Rattle.s3_records.specs.Catalogue.{Bucket, facts_of, facts_in, listed_buckets, versions_of, versioning_in, versioning_of}
@@ -60,67 +61,67 @@ module _ (rules : Rules) (s : State) (n t : ℕ) where
 abbrev pub Read : Type 0
 Read = Version (List ℕ) × Data (List ℕ)
 
--- what a rule answers that shows what conditions select of a version
-abbrev showing : State → Versioning → Conditions → Result Read Refusal → Result Stepped Refusal
-showing s v conditions read =
-    read >>= (λ r. shown_by conditions (version_facts r) >>= (λ selection. Ok (s, outcome_shown (found_in v r) selection)))
+-- what a rule answers that shows what conditions select of a version, and says this of it
+abbrev showing : State → Versioning → Conditions → List Entry → Result Read Refusal → Result Stepped Refusal
+showing s v conditions said read =
+    read >>= (λ r. shown_by conditions (version_facts r) >>= (λ selection. Ok (s, outcome_shown (found_in v r) said selection)))
 
 -- what is shown of its bytes
-shows_chosen : (s : State) (v : Versioning) (read : Read) (chosen : Result Selection Refusal) (selection : Selection)
+shows_chosen : (s : State) (v : Versioning) (said : List Entry) (read : Read) (chosen : Result Selection Refusal) (selection : Selection)
     → selected_of (version_facts read) chosen ≡ Ok selection
-    → stepped s (chosen >>= (λ c. Ok (s, outcome_shown (found_in v read) c))) ≡ (s, outcomes.Got (found_in v read) selection)
-shows_chosen s v read (Ok Whole) selection selects = cc
-shows_chosen s v read (Ok (Part first last)) selection selects = cc
-shows_chosen s v read (Ok Unchanged) selection selects = cc
-shows_chosen s v read (Ok Outside) selection selects = absurd (cc)
-shows_chosen s v read (Err refusal) selection selects = absurd (cc)
+    → stepped s (chosen >>= (λ c. Ok (s, outcome_shown (found_in v read) said c))) ≡ (s, outcomes.Got (found_in v read) selection said)
+shows_chosen s v said read (Ok Whole) selection selects = cc
+shows_chosen s v said read (Ok (Part first last)) selection selects = cc
+shows_chosen s v said read (Ok Unchanged) selection selects = cc
+shows_chosen s v said read (Ok Outside) selection selects = absurd (cc)
+shows_chosen s v said read (Err refusal) selection selects = absurd (cc)
 
 -- and what comes of a read that shows none of them
-tells_chosen : (s : State) (v : Versioning) (read : Read) (chosen : Result Selection Refusal) (outcome : Outcome)
+tells_chosen : (s : State) (v : Versioning) (said : List Entry) (read : Read) (chosen : Result Selection Refusal) (outcome : Outcome)
     → selected_of (version_facts read) chosen ≡ Err outcome
-    → stepped s (chosen >>= (λ c. Ok (s, outcome_shown (found_in v read) c))) ≡ (s, outcome)
-tells_chosen s v read (Ok Whole) outcome selects = absurd (cc)
-tells_chosen s v read (Ok (Part first last)) outcome selects = absurd (cc)
-tells_chosen s v read (Ok Unchanged) outcome selects = absurd (cc)
-tells_chosen s v read (Ok Outside) outcome selects = cc
-tells_chosen s v read (Err refusal) outcome selects = cc
+    → stepped s (chosen >>= (λ c. Ok (s, outcome_shown (found_in v read) said c))) ≡ (s, outcome)
+tells_chosen s v said read (Ok Whole) outcome selects = absurd (cc)
+tells_chosen s v said read (Ok (Part first last)) outcome selects = absurd (cc)
+tells_chosen s v said read (Ok Unchanged) outcome selects = absurd (cc)
+tells_chosen s v said read (Ok Outside) outcome selects = cc
+tells_chosen s v said read (Err refusal) outcome selects = cc
 
-shows : (s : State) (v : Versioning) (conditions : Conditions) (read : Result Read Refusal) (selection : Selection)
+shows : (s : State) (v : Versioning) (conditions : Conditions) (said : List Entry) (read : Result Read Refusal) (selection : Selection)
     → selected_by conditions (facts_read read) ≡ Ok selection
-    → stepped s (showing s v conditions read) ≡ (s, got_of selection (read_as_found v read))
-shows s v conditions (Ok read) selection selects = shows_chosen s v read (shown_by conditions (version_facts read)) selection selects
-shows s v conditions (Err refusal) selection selects = absurd (cc)
+    → stepped s (showing s v conditions said read) ≡ (s, got_of selection said (read_as_found v read))
+shows s v conditions said (Ok read) selection selects = shows_chosen s v said read (shown_by conditions (version_facts read)) selection selects
+shows s v conditions said (Err refusal) selection selects = absurd (cc)
 
-refuses : (s : State) (v : Versioning) (conditions : Conditions) (read : Result Read Refusal) (outcome : Outcome)
+refuses : (s : State) (v : Versioning) (conditions : Conditions) (said : List Entry) (read : Result Read Refusal) (outcome : Outcome)
     → selected_by conditions (facts_read read) ≡ Err outcome
-    → stepped s (showing s v conditions read) ≡ (s, outcome)
-refuses s v conditions (Ok read) outcome selects = tells_chosen s v read (shown_by conditions (version_facts read)) outcome selects
-refuses s v conditions (Err refusal) outcome selects = cc
+    → stepped s (showing s v conditions said read) ≡ (s, outcome)
+refuses s v conditions said (Ok read) outcome selects = tells_chosen s v said read (shown_by conditions (version_facts read)) outcome selects
+refuses s v conditions said (Err refusal) outcome selects = cc
 
-accepts : (s : State) (v : Versioning) (conditions : Conditions) (read : Result Read Refusal) (selection : Selection)
-    → selected_by conditions (facts_read read) ≡ Ok selection → is_refused (stepped s (showing s v conditions read)).1 ≡ false
-accepts s v conditions (Ok read) selection selects =
-    ap (λ (st : Stepped). is_refused st.1) (shows_chosen s v read (shown_by conditions (version_facts read)) selection selects)
-accepts s v conditions (Err refusal) selection selects = absurd (cc)
+accepts : (s : State) (v : Versioning) (conditions : Conditions) (said : List Entry) (read : Result Read Refusal) (selection : Selection)
+    → selected_by conditions (facts_read read) ≡ Ok selection → is_refused (stepped s (showing s v conditions said read)).1 ≡ false
+accepts s v conditions said (Ok read) selection selects =
+    ap (λ (st : Stepped). is_refused st.1) (shows_chosen s v said read (shown_by conditions (version_facts read)) selection selects)
+accepts s v conditions said (Err refusal) selection selects = absurd (cc)
 
 module _ (s : State) (n t : ℕ) (name key : List ℕ) (asked : ObjectRead) where
   pub read_shown : (selection : Selection)
       → selected_by asked.conditions (facts_read (pick asked.version (versions_of s name key))) ≡ Ok selection
-      → key_step s n t name key (key_commands.Read asked) ≡ (s, got_of selection (read_as_found (versioning_of s name) (pick asked.version (versions_of s name key))))
+      → key_step s n t name key (key_commands.Read asked) ≡ (s, got_of selection asked.overrides (read_as_found (versioning_of s name) (pick asked.version (versions_of s name key))))
   unfolding key_done
-  read_shown selection = shows s (versioning_of s name) asked.conditions (pick asked.version (versions_of s name key)) selection
+  read_shown selection = shows s (versioning_of s name) asked.conditions asked.overrides (pick asked.version (versions_of s name key)) selection
 
   pub read_refused : (outcome : Outcome)
       → selected_by asked.conditions (facts_read (pick asked.version (versions_of s name key))) ≡ Err outcome
       → key_step s n t name key (key_commands.Read asked) ≡ (s, outcome)
   unfolding key_done
-  read_refused outcome = refuses s (versioning_of s name) asked.conditions (pick asked.version (versions_of s name key)) outcome
+  read_refused outcome = refuses s (versioning_of s name) asked.conditions asked.overrides (pick asked.version (versions_of s name key)) outcome
 
   pub read_accepted : (selection : Selection)
       → selected_by asked.conditions (facts_read (pick asked.version (versions_of s name key))) ≡ Ok selection
       → is_refused (key_step s n t name key (key_commands.Read asked)).1 ≡ false
   unfolding key_done
-  read_accepted selection = accepts s (versioning_of s name) asked.conditions (pick asked.version (versions_of s name key)) selection
+  read_accepted selection = accepts s (versioning_of s name) asked.conditions asked.overrides (pick asked.version (versions_of s name key)) selection
 
 -- what is told of a version that is read is told of the one found
 abbrev pub IsToldOf : Versioning → Option (Version (List ℕ)) → Found (List ℕ) → Type 0

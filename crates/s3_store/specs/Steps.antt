@@ -13,6 +13,7 @@ use Rattle.s3_versions.specs.declared.picking.Refusal.{Refusal}
 use Rattle.s3_versions.specs.declared.version.Data.{Data}
 use Rattle.s3_versions.specs.declared.version.Version.{Version}
 use Rattle.s3_versions.specs.declared.version.Versioning.{Versioning}
+use Rattle.s3_versions.specs.Metadata.{Entry}
 use Rattle.s3_versions.specs.Rules.{new_id, VersionPut}
 use Rattle.s3_deletions.specs.Deletions.{rows_told}
 use Rattle.s3_deletions.specs.declared.named.Deletion.{Deletion}
@@ -88,10 +89,10 @@ abbrev pub selected_by : Conditions → Result Facts Refusal → Result Selectio
 selected_by conditions (Ok facts) = selected_of facts (shown_by conditions facts)
 selected_by conditions (Err refusal) = Err (outcomes.Refused refusal.code refusal.is_delete_marker)
 
--- what came of a read that is shown this
-abbrev pub got_of : Selection → Result (Found (List ℕ)) Refusal → Outcome
-got_of selection (Ok found) = outcomes.Got found selection
-got_of selection (Err refusal) = outcomes.Refused refusal.code refusal.is_delete_marker
+-- what came of a read that is shown this, and of which this is to be said
+abbrev pub got_of : Selection → List Entry → Result (Found (List ℕ)) Refusal → Outcome
+got_of selection overrides (Ok found) = outcomes.Got found selection overrides
+got_of selection overrides (Err refusal) = outcomes.Refused refusal.code refusal.is_delete_marker
 
 -- what came of a look at a version whose tags are asked for
 abbrev pub tags_of : Result (Found (List ℕ)) Refusal → Outcome

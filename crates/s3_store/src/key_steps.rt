@@ -17,7 +17,7 @@ use crate::upload_steps::begin;
 use s3_bodies::{Body, Payload};
 use s3_calendar::Moment;
 use s3_conditions::{Conditions, Selection, TagList, judge};
-use s3_machine::{Command, Found, KeyCommand, ObjectPut, ObjectRead, Outcome};
+use s3_machine::{Command, Found, KeyCommand, ObjectPut, ObjectRead, Outcome, Overrides};
 use s3_names::{BucketName, Key, VersionId};
 use s3_records::Records;
 use s3_terms::{Code, NoMemory};
@@ -97,11 +97,7 @@ fn take_in_bucket<R: Records>(
         KeyCommand::Copy(asked) => copy(
             records, alloc, bucket, versioning, key, asked, number, moment,
         ),
-        KeyCommand::Read(asked) => {
-            let told = read(records, alloc, bucket, versioning, &key, &asked);
-            drop(asked);
-            told
-        }
+        KeyCommand::Read(asked) => read(records, alloc, bucket, versioning, &key, asked),
         KeyCommand::ReadTags { version } => {
             read_tags(records, alloc, bucket, versioning, &key, version)
         }
@@ -203,20 +199,20 @@ fn read<R: Records>(
     bucket: &BucketName,
     versioning: Versioning,
     key: &Key,
-    asked: &ObjectRead,
+    asked: ObjectRead,
 ) -> Result<Outcome, NoMemory>
     requires { versioning ≡ versioning_of (R.catalogue records.old) bucket.now }
     ensures ok { IfOk result (λ outcome. (n t : ℕ)
-        → key_step (R.catalogue records.old) n t bucket.now key.now (KeyCommand.Read asked.now) ≡ (R.catalogue records.new, outcome)) }
+        → key_step (R.catalogue records.old) n t bucket.now key.now (KeyCommand.Read asked) ≡ (R.catalogue records.new, outcome)) }
     ensures same { R.catalogue records.new ≡ R.catalogue records.old }
     ensures memory { OnErr result (R.is_in_memory ≡ true → (n t : ℕ)
-        → is_refused (key_step (R.catalogue records.old) n t bucket.now key.now (KeyCommand.Read asked.now)).1 ≡ false) }
+        → is_refused (key_step (R.catalogue records.old) n t bucket.now key.now (KeyCommand.Read asked)).1 ≡ false) }
 {
     let facts = records.facts(alloc, bucket, key, asked.version)?;
     match selected(facts, &asked.conditions) {
         Ok(selection) => {
             let read = look(records, alloc, bucket, versioning, key, asked.version)?;
-            Ok(got(read, selection))
+            Ok(got(read, selection, asked.overrides))
         }
         Err(outcome) => Ok(outcome),
     }
@@ -237,12 +233,16 @@ fn selected(facts: Result<Facts, Refusal>, conditions: &Conditions) -> Result<Se
     }
 }
 
-// What came of a read that is shown this.
-fn got(read: Result<Found<Body>, Refusal>, selection: Selection) -> Outcome
-    ensures { result ≡ got_of selection read }
+// What came of a read that is shown this, and of which this is to be said.
+fn got(read: Result<Found<Body>, Refusal>, selection: Selection, overrides: Overrides) -> Outcome
+    ensures { result ≡ got_of selection overrides read }
 {
     match read {
-        Ok(found) => Outcome::Got { found, selection },
+        Ok(found) => Outcome::Got {
+            found,
+            selection,
+            overrides,
+        },
         Err(refusal) => refused_with(refusal),
     }
 }

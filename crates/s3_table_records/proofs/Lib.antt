@@ -9,4 +9,3 @@ pub mod DroppingLemmas
 pub mod UploadLemmas
 pub mod ListedLemmas
 pub mod CopyLemmas
-pub mod MissingLemmas

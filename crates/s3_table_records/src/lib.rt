@@ -20,5 +20,5 @@ mod reading;
 mod table_records;
 mod uploads;
 
-pub use opening::{add_missing, open_buckets};
+pub use opening::open_buckets;
 pub use table_records::TableRecords;

@@ -2,7 +2,7 @@
 use s3_bodies::{Body, PayloadBuilder, Sink};
 use s3_calendar::Moment;
 use s3_conditions::Conditions;
-use s3_machine::{Command, KeyCommand, ObjectPut, ObjectRead, Turn, WriteCondition};
+use s3_machine::{Command, KeyCommand, ObjectPut, ObjectRead, Overrides, Turn, WriteCondition};
 use s3_names::{BucketName, Key};
 use s3_versions::{ContentType, Metadata};
 use std::alloc::Global;
@@ -23,6 +23,7 @@ fn asked(alloc: Global, bytes: Option<&[u8]>, if_absent: bool) -> Option<KeyComm
         return Some(KeyCommand::Read(ObjectRead {
             version: None,
             conditions: Conditions::plain(),
+            overrides: Overrides::none(alloc),
         }));
     };
     let mut builder = PayloadBuilder::new(alloc, bytes.len() as u64);

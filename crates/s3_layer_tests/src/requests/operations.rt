@@ -486,7 +486,11 @@ pub(crate) fn outcome_text(alloc: Global, outcome: Outcome) -> Told {
             shown,
         } => completed_text(alloc, document, &tag, shown),
         Outcome::UploadDropped => word(alloc, "upload dropped"),
-        Outcome::Got { found, selection } => got_text(alloc, &found, selection),
+        Outcome::Got {
+            found,
+            selection,
+            ..
+        } => got_text(alloc, &found, selection),
         Outcome::NoTags { shown } => shown_text(alloc, b"no tags ", shown, b""),
         Outcome::OutOfRange { size } => joined(alloc, b"out of range ", &number(alloc, size)?),
         Outcome::Deleted {

@@ -394,7 +394,7 @@ fn has_bytes(alloc: Global, body: Option<Body>, bytes: &[u8]) -> bool {
 
 // Whether an answer is sent as these bytes: its head, and behind it what is given.
 fn is_sent(alloc: Global, answer: Answer, context: &Context, bytes: &[u8]) -> bool {
-    let Ok(mut head) = Vec::with_capacity(alloc, 6_144) else {
+    let Ok(mut head) = Vec::with_capacity(alloc, 8_192) else {
         return false;
     };
     let body = print_reply(answer, context, &mut head);

@@ -89,10 +89,10 @@ static SIZES: &[Sizes] = &[
     },
     // The longest head.
     Sizes {
-        first: (6_144, 1),
+        first: (8_192, 1),
         second: (0, 0),
         last: 0,
-        writes: &[&[(6_144, b'h', b'h'), (1, b'b', b'b')]],
+        writes: &[&[(8_192, b'h', b'h'), (1, b'b', b'b')]],
     },
     // One reply behind another.
     Sizes {
@@ -141,7 +141,7 @@ fn body_of(alloc: Global, reply: &Reply) -> Option<Body> {
 fn put(outbox: &mut Outbox, head: &[u8], body: Option<Body>) {
     drop(outbox.make_room());
     outbox.give_back();
-    if outbox.has_room() && !outbox.is_ended() && head.len() <= 6_144 {
+    if outbox.has_room() && !outbox.is_ended() && head.len() <= 8_192 {
         outbox.push(head, body);
     } else {
         drop(body);

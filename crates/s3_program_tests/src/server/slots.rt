@@ -1,4 +1,4 @@
-//! How many connections may be held, when workers lack a slot, and that a failure is noted.
+//! How many connections may be awaited and held, when workers lack a slot, and that a failure is noted.
 use crate::checks::check;
 use s3_server::Slots;
 use std::process::Abort;
@@ -78,6 +78,30 @@ fn numbers(rt: HostRuntime) {
         for number in numbers {
             check(&rt, slots.count_one() == number, "numbers");
         }
+    }
+}
+
+// The most connections that come, and whether three in turn are awaited.
+const AWAITED: [(Option<u64>, [bool; 3]); 3] = [
+    (None, [true, true, true]),
+    (Some(2), [true, true, false]),
+    (Some(1), [true, false, false]),
+];
+
+#[test]
+fn awaited(rt: HostRuntime) {
+    for (most, awaited) in AWAITED {
+        let slots = Slots::new(most, 1);
+        for is_awaited in awaited {
+            let is_right = slots.may_await() == is_awaited && slots.await_one() == is_awaited;
+            check(&rt, is_right, "awaited");
+        }
+        slots.await_none();
+        check(
+            &rt,
+            slots.await_one(),
+            "in the place of one that didn't come",
+        );
     }
 }
 

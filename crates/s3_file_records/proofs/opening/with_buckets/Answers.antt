@@ -1,5 +1,5 @@
 use Rattle.std.proofs.Common.{sym, ap, subst, ◌∙◌, ℕ, ℤ, SFits, w64, to_z-of_z, rules}
-use Rattle.s3_records.specs.Places.{AreBelow}
+use Rattle.s3_keepers.specs.Sound.{IsSoundCatalogue}
 use Rattle.s3_row_steps.specs.Steps.{AreKept}
 use Rattle.s3_table_records.specs.Kept.{catalogue, kept_in}
 use Rattle.s3_file_records.proofs.opening.with_buckets.Goals as goal
@@ -13,8 +13,8 @@ over-records-requires g c =
       named = λ n. ap (λ (f : ℕ → ℕ). f n) c.requires.named ∙ found.named n;
     }
 
-pub returns-in-Ok-clause-below : goal.returns-in-Ok-clause-below
-returns-in-Ok-clause-below g c =
-    c.add_missing.ensures.below c.args.found.now.number
-    (subst (λ r. AreBelow c.args.found.now.number (catalogue (kept_in g.R.StoredRows.tables g.B.StoredBodies.contents g.B.StoredBodies.uses r))) (sym c.over-records.ensures)
-    (c.requires.found.below (g.B.StoredBodies.contents c.args.bodies)))
+pub returns-in-Ok-clause-sound : goal.returns-in-Ok-clause-sound
+returns-in-Ok-clause-sound g c =
+    c.add_missing.ensures.sound c.args.found.now.number
+    (subst (λ r. IsSoundCatalogue (catalogue (kept_in g.R.StoredRows.tables g.B.StoredBodies.contents g.B.StoredBodies.uses r)) c.args.found.now.number)
+    (sym c.over-records.ensures) (c.requires.found.sound (g.B.StoredBodies.contents c.args.bodies)))

@@ -1,14 +1,14 @@
 use Rattle.std.proofs.Common.{sym, ap, subst, ◌∙◌, ℕ, ℤ, pos, [], ◌∷◌, ◌++◌, map, SFits, w64, to_z-of_z, rules}
 use Rattle.s3_rows.specs.Columns.{Tables}
 use Rattle.s3_found_rows.specs.Found.{tables_of}
-use Rattle.s3_records.specs.Places.{AreBelow}
+use Rattle.s3_keepers.specs.Sound.{IsSoundCatalogue}
 use Rattle.s3_rows.specs.Meaning.{catalogue_of}
 use Rattle.s3_stored_bodies.specs.Numbers.{times}
 use Rattle.s3_stored_rows.specs.Bodies.{encoding, numbers_named}
 use Rattle.s3_stored_rows.specs.Changes.{store_columns}
 use Rattle.s3_stored_rows.specs.Rowids.{AreRowsBelow}
 use Rattle.s3_found_rows.proofs.LoadedLemmas.{number_room, next_above, count_is, only_store, store_stays, whole_same}
-use Rattle.s3_found_rows.proofs.SoundLemmas.{rows_below, are_sound, small_versions, small_uploads, numbers_below}
+use Rattle.s3_found_rows.proofs.SoundLemmas.{rows_below, are_sound, small_versions, small_uploads, catalogue_sound}
 use Rattle.s3_found_rows.proofs.loading.load.Goals as goal
 
 pub put_tables-requires : goal.put_tables-requires
@@ -38,13 +38,12 @@ returns-clause-named g c = λ n.
     let t = g.R.StoredRows.tables c.put_tables.new.rows in
     ap (times n) (c.in_ok-last.ensures.bodies ∙ ap (λ l. l ++ numbers_named t) c.new-bodies.ensures.items)
 
-pub returns-clause-below : goal.returns-clause-below
-returns-clause-below g c = λ contents.
-    let rows = c.put_tables.new.rows in
-    let t = g.R.StoredRows.tables rows in
+pub returns-clause-sound : goal.returns-clause-sound
+returns-clause-sound g c = λ contents.
+    let t = g.R.StoredRows.tables c.put_tables.new.rows in
     let sound = are_sound t c.in_ok-last.last _ c.in_ok-last.ensures.filled c.are_unique.ensures in
-    subst (λ (n : ℕ). AreBelow n (catalogue_of (encoding contents) t)) (sym c.unsigned_abs.ensures.value)
-    (numbers_below t c.in_ok-last.last _ c.in_ok-last.ensures.filled (encoding contents) sound)
+    subst (λ (n : ℕ). IsSoundCatalogue (catalogue_of (encoding contents) t) n) (sym c.unsigned_abs.ensures.value)
+    (catalogue_sound t c.in_ok-last.last _ c.in_ok-last.ensures.filled contents sound)
 
 pub returns-clause-store : goal.returns-clause-store
 returns-clause-store g c =

@@ -1,6 +1,6 @@
 use Rattle.s3_machine.proofs.EffectLemmas.{FollowRules}
 use Rattle.s3_machine.proofs.OriginLemmas.{only_stored_stands, only_stored_is_given}
-use Rattle.s3_machine.proofs.AnswerLemmas.{reads_give_or_fail}
+use Rattle.s3_machine.proofs.AnswerLemmas.{reads_give_or_fail, replies_say_what_is_asked}
 use Rattle.s3_machine.proofs.BroughtLemmas.{stored_was_brought}
 use Rattle.s3_machine.proofs.ShownLemmas.{reads_are_judged}
 use Rattle.s3_machine.proofs.StateLemmas.{Numbers}
@@ -20,4 +20,5 @@ returns c =
       brought = stored_was_brought places follow numbers ids c.completions_join_what_was_sent.ensures;
       or_fails = reads_give_or_fail;
       judged = reads_are_judged;
+      said = replies_say_what_is_asked;
     }

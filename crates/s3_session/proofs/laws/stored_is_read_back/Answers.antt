@@ -14,6 +14,7 @@ returns c =
       sound = c.histories_leave_sound_bases.ensures.opening;
       nothing = c.histories_leave_sound_bases.ensures.nothing;
       given = c.only_stored_is_given.ensures.given;
+      said = c.only_stored_is_given.ensures.said;
       origins = c.only_stored_is_given.ensures.brought;
     } in
     record {

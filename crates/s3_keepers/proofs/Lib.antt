@@ -1,0 +1,2 @@
+pub mod SoundLemmas
+pub mod MissingLemmas

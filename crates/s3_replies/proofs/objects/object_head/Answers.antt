@@ -1,0 +1,21 @@
+use Rattle.std.proofs.Common.{rules}
+use Rattle.s3_replies.specs.declared.lines.Entries.TheVariants.{All}
+use Rattle.s3_replies.proofs.LineLemmas.{size-told, count-told, type_fits}
+use Rattle.s3_replies.proofs.objects.object_head.Goals as goal
+
+pub print-requires-clause-fits : goal.print-requires-clause-fits
+print-requires-clause-fits g c =
+    let kept = c.entries-2.ensures in
+    let set = c.entries-3.ensures in
+    record {
+      date = search rules;
+      version_id = search rules;
+      source_version_id = search rules;
+      location = search rules;
+      tag = search rules;
+      modified = search rules;
+      content_range = search rules;
+      content_type = rw c.type_left.ensures (type_fits c.entries.result.now c.as_bytes-2.result.now (search rules));
+      metadata = size-told All c.entries-3.result.now c.entries-2.result.now (rw kept.value kept.size) (rw set.value set.size);
+      metadata_count = count-told All c.entries-3.result.now c.entries-2.result.now (rw kept.value kept.count) (rw set.value set.count);
+    }
