@@ -2,6 +2,7 @@
 
 import json
 import os
+import re
 import shutil
 from pathlib import Path
 
@@ -20,6 +21,11 @@ s3 =
 # What the generations of AWS's command line say of an answer that they can't read.
 UNREAD = ["(500)", "Unable to parse response"]
 
+
+
+def option_of(name):
+    """The option of a parameter of the API, as `--response-content-type` is that of ResponseContentType."""
+    return "-" + re.sub("([A-Z])", r"-\1", name).lower()
 
 
 class Aws(Command):
@@ -104,6 +110,10 @@ class AwsApi(Aws):
 
     def head_if(self, key, tag):
         return self.head(key, "--if-match", tag)
+
+    def told_as(self, key, named):
+        words = [word for name, value in named.items() for word in (option_of(f"Response{name}"), value)]
+        return json.loads(self.api("get-object", key, *words, "--output", "json", self.path()))
 
     def copy(self, key, other, *words):
         self.api("copy-object", other, "--copy-source", f"{BUCKET}/{key}", *words)

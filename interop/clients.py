@@ -117,6 +117,10 @@ class Client:
         """Deletes an object, where it has this tag."""
         raise Lacking()
 
+    def told_as(self, key, named):
+        """What a get tells of an object where it asks for these lines in the place of those that are kept."""
+        raise Lacking()
+
     def presigned(self, method, key):
         """An address that is signed for a request with this method, for an hour."""
         raise Lacking()

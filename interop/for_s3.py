@@ -24,6 +24,8 @@ SOON = 20
 # A media type and metadata, and what takes their place.
 KEPT = ("text/css", {"a": "1", "old": "x"})
 NEW = ("text/html", {"a": "2", "new": "v w"})
+# Lines that are kept with an object.
+KEPT_LINES = {"content-type": "text/css", "content-language": "en", "cache-control": "max-age=60"}
 # A moment before all copies, and one at which a file may have been changed.
 BEFORE, CHANGED_AT = "Thu, 01 Jan 2015 00:00:00 GMT", 1_234_567_890
 # Spans of an object of 12 MiB that make another one: all of it; a middle, the front and one byte.
@@ -323,6 +325,16 @@ def write_if(client, _other):
     expect(Missing, lambda: client.get(key))
 
 
+def told_instead(client, _other):
+    """Lines that a get asks for in the place of those that are kept with the object."""
+    direct, folder = filled(client, [])
+    direct.put(f"{folder}a", b"hello", lines=KEPT_LINES)
+    named = {"ContentType": "text/html", "ContentDisposition": 'attachment; filename="a b.txt"', "CacheControl": "no-store"}
+    told = client.told_as(f"{folder}a", named)
+    same({name: told.get(name) for name in named}, named, "what is told")
+    same(told.get("ContentLanguage"), KEPT_LINES["content-language"], "the language")
+
+
 # By name, in their order, as those of `interop/run`.
 CHECKS_FOR_S3 = {
     "64 MiB": whole,
@@ -331,6 +343,7 @@ CHECKS_FOR_S3 = {
     "control bytes": control_bytes,
     "new after empty": after_empty,
     "write if": write_if,
+    "told instead": told_instead,
     "sum of sizes": total,
     "move": move,
     "new metadata": new_metadata,

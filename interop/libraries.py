@@ -81,6 +81,9 @@ class Boto3(Client):
     def delete_if(self, key, tag):
         self.call("delete_object", key, IfMatch=tag)
 
+    def told_as(self, key, named):
+        return self.call("get_object", key, **{f"Response{name}": value for name, value in named.items()})
+
     def presigned(self, method, key):
         # Without the version it signs an address by the second one, where the region is this.
         operation = {"GET": "get_object", "PUT": "put_object", "HEAD": "head_object"}[method]

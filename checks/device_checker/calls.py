@@ -1,8 +1,6 @@
 """Connections and runs of the program in one process, over devices that fail at a call: has the Rattle program beside this
 file built, and judges the lines that it tells. It is the part `calls` of `checks/devices`."""
 
-import re
-import shutil
 import subprocess
 import sys
 import tempfile
@@ -13,11 +11,12 @@ sys.path.append(str(Path(__file__).resolve().parent.parent))
 
 from messages import BUCKET, ID, SECRET, Sender  # noqa: E402
 from replies import Wrong, replies_in  # noqa: E402
+from unproved import build  # noqa: E402
 
 MOMENT = 1_369_353_600
 OTHER = ("AKIAI44QH8DHBEXAMPLE", "je7MtGbClwBF/2Zp9Utk/h3yCo8nvbEXAMPLEKEY")
 KEYS = f"{ID} {SECRET}\n{OTHER[0]} {OTHER[1]}\n".encode()
-CHECKER = Path(__file__).resolve().parent
+CHECKER = "device_checker"
 BELOW = (
     "s3_names s3_terms s3_calendar s3_config s3_events s3_devices s3_settings s3_records s3_store s3_machine s3_history "
     "s3_journal s3_driver s3_keepers s3_cli"
@@ -55,32 +54,14 @@ class Runs:
         }
 
 
-def checked_out(tree, folder):
-    """A copy of the crates of a tree, with the checker as one more; its folder."""
-    copy = Path(folder) / "tree"
-    shutil.copytree(tree / "crates", copy / "crates", ignore=shutil.ignore_patterns("out", "must-fail", "data"))
-    shutil.copy(tree / "HANDLES", copy)
-    (copy / "crates.txt").write_text((tree / "crates.txt").read_text() + f"device_checker: {BELOW}\n")
-    crate = copy / "crates/device_checker"
-    (crate / "src").mkdir(parents=True)
-    for source in CHECKER.glob("*.rattle"):
-        shutil.copy(source, crate / "src" / f"{source.stem}.rt")
-    return crate
-
-
 def checker_lines(asked, runs):
     """The lines that the checker tells of each run, by their names."""
     with tempfile.TemporaryDirectory() as folder:
-        crate, cases = checked_out(asked.tree, folder), Path(folder) / "cases"
-        cases.mkdir()
+        program = build(asked.tree, CHECKER, Path(folder, CHECKER), BELOW)
         for name, (words, given) in runs.cases.items():
-            (cases / name.replace(" ", "_")).write_bytes(given)
-            (cases / f"{name.replace(' ', '_')}.args").write_text("\n".join(words))
-        words = ["rt", "try", "--steps", "1000", "--seconds", str(asked.seconds), "--cases", cases]
-        ran = subprocess.run(words, cwd=crate, stdin=subprocess.DEVNULL, capture_output=True, text=True)
-    need(ran.returncode == 0, "rt try of the checker:", ran.returncode, ran.stderr[-3000:])
-    parts = re.split(r"^== (.*)\n", ran.stdout, flags=re.M)
-    return {name.replace("_", " "): text.splitlines() for name, text in zip(parts[1::2], parts[2::2])}
+            ran = subprocess.run([program, *words], input=given, capture_output=True, timeout=asked.seconds)
+            need(ran.returncode == 0, "the checker of", name, "ends with status", ran.returncode, ran.stderr[-3000:])
+            yield name, ran.stdout.decode().splitlines()
 
 
 def judge_connection(line, calls, runs, replies):
@@ -138,7 +119,7 @@ def calls_of(lines):
 def calls(asked):
     """The runs of the checker."""
     runs, total = Runs(), 0
-    for name, (first, *lines) in checker_lines(asked, runs).items():
+    for name, (first, *lines) in checker_lines(asked, runs):
         full, told, *_ = (bytes.fromhex(it) for it in first.split(" ")[:2])
         counted, found = calls_of(lines), Counter()
         if name == "connection":
