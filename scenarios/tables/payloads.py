@@ -3,14 +3,17 @@ it refuses of a body. Chunks are read byte by byte where they aren't data."""
 
 import re
 
-from signing import CHUNKED, UNSIGNED, sha256
+from signing import CHUNKED, DIGITS, UNSIGNED, sha256
 
 from .bodies import Body
+from .chains import Chain
 from .requests import Request, refuse
 from .sums import CHECKSUM, is_met, is_read
 
-# What a request tells whose data comes in unsigned chunks, with a checksum behind them.
-UNSIGNED_CHUNKS = "STREAMING-UNSIGNED-PAYLOAD-TRAILER"
+# What a request tells whose data comes in chunks with a checksum behind them: unsigned ones, or signed ones.
+UNSIGNED_CHUNKS, TRAILED_CHUNKS = "STREAMING-UNSIGNED-PAYLOAD-TRAILER", f"{CHUNKED}-TRAILER"
+# How many bytes such a trailer of signed chunks has beside its name and its value.
+FRAME = len(":\r\nx-amz-trailer-signature:\r\n\r\n") + DIGITS
 
 
 class Sent:
@@ -30,12 +33,33 @@ class Sent:
         for byte in text:
             refuse(self.take(1).lower() != bytes([byte]), "InvalidRequest")
 
-    def before_cr(self, form, most):
-        """The bytes before the next carriage return, and reads that: one or more of this form, and so many at most."""
+    def before(self, mark, form, most):
+        """The bytes before the next of this one, and reads that: one or more of this form, and so many at most."""
         found = b""
-        while (byte := self.take(1)) != b"\r" or not found:
+        while (byte := self.take(1)) != mark or not found:
             found += byte
             refuse(not re.fullmatch(form, byte) or len(found) > most, "InvalidRequest")
+        return found
+
+    def before_cr(self, form, most):
+        return self.before(b"\r", form, most)
+
+    def value(self):
+        """The value of a trailer, up to the CR of its line, before which one line feed may stand."""
+        found = b""
+        while (byte := self.take(1)) not in (b"\r", b"\n") or not found:
+            found += byte
+            refuse(not re.fullmatch(rb"[!-~]", byte) or len(found) > 64, "InvalidRequest")
+        if byte == b"\n":
+            self.pass_by(b"\r")
+        return found.decode()
+
+    def each(self, forms):
+        """The next bytes, each of its form."""
+        found = b""
+        for form in forms:
+            found += self.take(1)
+            refuse(not re.fullmatch(form, found[-1:]), "InvalidRequest")
         return found
 
 
@@ -49,10 +73,37 @@ def in_unsigned_chunks(text, decoded, name):
         data += sent.take(size)
         sent.pass_by(b"\r\n")
     sent.pass_by(f"\n{name}:".encode())
-    value = sent.before_cr(rb"[!-~]", 64).decode()
+    value = sent.value()
     sent.pass_by(b"\n\r\n")
     refuse(len(data) < decoded, "IncompleteBody")
     refuse(sent.left, "InvalidRequest")
+    return data, value
+
+
+def in_trailed_chunks(text, length, decoded, name, chain):
+    """The data that comes in chunks signed by this chain, and the value of the trailer of this name behind them, which is
+    signed too, of a body of so many bytes, of which so many are data."""
+    sent, data, size = Sent(text), b"", None
+    while size != 0:
+        size = int(sent.before(b";", rb"[0-9A-Fa-f]", 8), 16)
+        sent.each(bytes([byte]) for byte in b"chunk-signature=")
+        told = sent.each([rb"[0-9a-f]"] * DIGITS).decode()
+        sent.each([b"\r", b"\n"])
+        refuse(len(data) + size > decoded, "InvalidRequest")
+        chunk, left = sent.take(size), length - (len(text) - len(sent.left))
+        if size != 0:
+            sent.each([b"\r", b"\n"])
+        refuse(left == 0, "IncompleteBody")
+        refuse(told != chain.next(chunk), "SignatureDoesNotMatch")
+        data += chunk
+    refuse(len(data) < decoded, "IncompleteBody")
+    least = len(name) + FRAME
+    refuse(not least + 1 <= left <= least + 65, "InvalidRequest")
+    form = f"(?i:{name}):([!-~]{{1,64}})\n?\r\n(?i:x-amz-trailer-signature):([0-9a-f]{{{DIGITS}}})\r\n\r\n"
+    found = re.fullmatch(form.encode(), sent.take(left))
+    refuse(not found, "InvalidRequest")
+    value, told = found[1].decode(), found[2].decode()
+    refuse(told != chain.seal(f"{name}:{value}"), "SignatureDoesNotMatch")
     return data, value
 
 
@@ -69,18 +120,22 @@ class Payload(Request):
         if word == CHUNKED:
             return self.body
         sent = self.behind[:length]
-        if word == UNSIGNED_CHUNKS:
-            self.body = self.in_chunks(sent)
+        if word in (UNSIGNED_CHUNKS, TRAILED_CHUNKS):
+            self.body = self.in_chunks(sent, word == TRAILED_CHUNKS, length)
             return self.body
         refuse(len(sent) < length, "IncompleteBody")
         refuse(word not in (None, UNSIGNED, sha256(sent)), "XAmzContentSHA256Mismatch")
         self.body = Body.of(sent.decode())
         return super().received()
 
-    def in_chunks(self, sent):
-        """The data that comes in unsigned chunks, which has to have the checksum behind them."""
+    def in_chunks(self, sent, are_signed, length):
+        """The data that comes in chunks, which has to have the checksum behind them."""
         name, decoded = self.line("x-amz-trailer").lower(), int(self.line("x-amz-decoded-content-length"))
-        data, value = in_unsigned_chunks(sent, decoded, name)
+        if are_signed:
+            chain = Chain(self.line("authorization"), self.line("x-amz-date"))
+            data, value = in_trailed_chunks(sent, length, decoded, name, chain)
+        else:
+            data, value = in_unsigned_chunks(sent, decoded, name)
         kind = name.removeprefix(CHECKSUM)
         refuse(not is_read(kind, value), "InvalidRequest")
         refuse(not is_met(kind, value, data), "BadDigest")

@@ -16,12 +16,12 @@ use Rattle.s3_aws_chunked.proofs.FaultLemmas.{Ended, Mid, Silent, mid_silent, si
 use Rattle.s3_aws_chunked.proofs.EndedLemmas.{ended_silent}
 
 -- the first of a chain is one
-signed_front : (seed : Link) (cs ds : List Chunk) → AreSigned seed (cs ++ ds) → AreSigned seed cs
+pub signed_front : (seed : Link) (cs ds : List Chunk) → AreSigned seed (cs ++ ds) → AreSigned seed cs
 signed_front seed [] ds signed = tt
 signed_front seed (c ∷ cs) ds signed = (signed.0, signed_front (linked seed c.signature) cs ds signed.1)
 
 -- a part of a chunk behind others, whose data fits with theirs
-front_mid : (terms : Terms) (before : List Chunk) (c : Chunk) (n : ℕ) → HoldData before → AreSigned terms.seed before → IsChunk c → length (data_of before) + length c.bytes ≤ terms.decoded → n < length (chunk_text c) → Mid terms (chunks_text before ++ take n (chunk_text c)) before (take n (chunk_text c))
+pub front_mid : (terms : Terms) (before : List Chunk) (c : Chunk) (n : ℕ) → HoldData before → AreSigned terms.seed before → IsChunk c → length (data_of before) + length c.bytes ≤ terms.decoded → n < length (chunk_text c) → Mid terms (chunks_text before ++ take n (chunk_text c)) before (take n (chunk_text c))
 front_mid terms before c n each signed is room short = record {
   each = each;
   signed = signed;
@@ -41,7 +41,7 @@ front_mid terms before c n each signed is room short = record {
 }
 
 -- one more chunk before, and one fewer behind
-text_moved : (before : List Chunk) (c : Chunk) (rest : List ℕ) → chunks_text (before ++ c ∷ []) ++ rest ≡ chunks_text before ++ (chunk_text c ++ rest)
+pub text_moved : (before : List Chunk) (c : Chunk) (rest : List ℕ) → chunks_text (before ++ c ∷ []) ++ rest ≡ chunks_text before ++ (chunk_text c ++ rest)
 text_moved before c rest =
     ap (λ t. t ++ rest) (sym (append-nil (chunks_text (before ++ c ∷ []))) ∙ sym (text_push before c))
     ∙ append_assoc (chunks_text before) (chunk_text c) rest

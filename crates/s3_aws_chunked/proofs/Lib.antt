@@ -17,4 +17,14 @@ pub mod JudgeLemmas
 pub mod FinalLemmas
 pub mod OpenLemmas
 pub mod WritingLemmas
+pub mod TrailedRunLemmas
+pub mod TrailedStepLemmas
+pub mod FrontLemmas
+pub mod BeforeLemmas
+pub mod TrailedKeptLemmas
+pub mod TrailedFinalLemmas
+pub mod TrailedReaderLemmas
+pub mod TrailerLemmas
+pub mod TrailedFrontLemmas
+pub mod TrailedBodyLemmas
 pub mod AcceptLemmas

@@ -67,7 +67,7 @@ whole_step_as p byte true inside h k = rw h refl
 whole_step_as p byte false true h k = rw (h, k) (ap (λ (s : Count). s.whole) (span_data p (byte ∷ [])))
 whole_step_as p byte false false h k = rw (h, k) (ap (λ (s : Count). s.whole) (span_byte p byte))
 
-whole_run : (p : Progress) (bytes : List ℕ) → (run p bytes).place.span.whole ≡ p.place.span.whole
+pub whole_run : (p : Progress) (bytes : List ℕ) → (run p bytes).place.span.whole ≡ p.place.span.whole
 whole_run p [] = refl
 whole_run p (byte ∷ bytes) =
     whole_run (stepped p byte) bytes ∙ whole_step_as p byte (is_closed p.place) (is_data p.place.phase) refl refl

@@ -1,6 +1,6 @@
 -- How a reader goes on, byte by byte.
 -- Nobody has to believe the definitions of this file: what they come to, the verdict on the bytes, is a law.
-use Rattle.std.specs.Prelude.{◌≡◌, ℕ, ◌+◌, ◌-◌, Bool, true, false, not, ◌==◌, nat_lt, if◌then◌else◌, List, [], ◌∷◌, ◌++◌, slice_set, replicate, length, ◌&&◌, ◌||◌, Option, Some, None}
+use Rattle.std.specs.Prelude.{◌≡◌, ℕ, ◌+◌, ◌-◌, ◌<◌, Bool, true, false, not, ◌==◌, nat_lt, if◌then◌else◌, List, [], ◌∷◌, ◌++◌, slice_set, replicate, length, take, ◌&&◌, ◌||◌, Option, Some, None}
 use Rattle.std.specs.Str.{bytes_eq}
 use Rattle.sha2.specs.Sha256.{sha256}
 use Rattle.sha2.specs.Hashers.{Holds256}
@@ -51,6 +51,15 @@ is_data (Line place size) = false
 is_data (Ending last) = false
 is_data Over = false
 is_data (Refused fault) = false
+
+-- the first line of the last chunk has come
+abbrev pub is_at_end : Phase → Bool
+is_at_end (Data left last) = last
+is_at_end (Size digits) = false
+is_at_end (Line place size) = false
+is_at_end (Ending last) = false
+is_at_end Over = false
+is_at_end (Refused fault) = false
 
 abbrev pub moved : Place → Phase → Place
 moved place phase = record place { phase = phase }
@@ -155,6 +164,11 @@ stepped p byte =
     else if is_data p.place.phase then data_read p (byte ∷ [])
     else byte_read p byte
 
+-- nothing is read at a place: no byte, or at the front of a body no byte behind the first line of its last chunk
+abbrev pub stops : Bool → Place → Bool
+stops true place = is_closed place || is_at_end place.phase
+stops false place = is_closed place
+
 -- these bytes have come
 abbrev pub run : Progress → List ℕ → Progress
 run p [] = p
@@ -191,3 +205,7 @@ pub record Shows (decoder : Decoder) (p : Progress) : Type 0 where
 -- a sink that had these bytes, and got what the reader gave between these two, has those
 abbrev pub Keeps : List ℕ → List ℕ → Progress → Progress → Type 0
 Keeps old new before after = (front : List ℕ) → old ≡ front ++ before.held → new ≡ front ++ after.held
+
+-- so many of these bytes stand before what follows the first line of the last chunk
+abbrev pub StandBefore : Progress → List ℕ → ℕ → Type 0
+StandBefore p bytes n = (m : ℕ) → m < n → is_at_end (run p (take m bytes)).place.phase ≡ false

@@ -9,5 +9,10 @@ pub mod Reader
 pub mod Laws
 pub mod Finality
 pub mod Write
+pub mod Trailer
+pub mod Trailed
+pub mod TrailedReader
+pub mod TrailedLaws
+pub mod TrailedBody
 pub use Rattle.s3_terms.specs.Code
 pub use Rattle.s3_signing.specs.Chain

@@ -1,9 +1,9 @@
 //! What takes the bytes of a body that is signed in chunks, one by one, and data as it comes.
 
-ghost use Rattle.std.specs.Prelude.{◌≡◌, ℕ, ◌+◌, ◌<◌, ◌≤◌, ◌⊎◌, true, false, List, [], ◌++◌, length, take, is_ok, if◌then◌else◌, MatchResult, IfOk, OnOk, OnErr};
+ghost use Rattle.std.specs.Prelude.{◌≡◌, ℕ, ◌+◌, ◌<◌, ◌≤◌, ◌⊎◌, true, false, List, [], ◌++◌, length, take, is_ok, if◌then◌else◌, None, MatchResult, IfOk, OnOk, OnErr};
 ghost use Rattle.s3_signing.specs.Chain.{Link};
 
-use crate::phase::{Event, Phase, read};
+use crate::phase::{Event, Fault, Phase, read};
 use crate::place::Place;
 use crate::span::Span;
 use s3_bodies::Sink;
@@ -24,6 +24,7 @@ impl Decoder {
     ghost use Rattle.s3_aws_chunked.specs.Count.{advanced};
     ghost use Rattle.s3_aws_chunked.specs.Sinks.{Grows};
     ghost use Rattle.s3_aws_chunked.specs.Decoder as reading;
+    ghost use Rattle.s3_aws_chunked.specs.Trailed as trailed;
 
     // Where nothing of a body has come yet.
     pub(crate) fn new(chain: ChunkChain, encoded: u64, decoded: u64) -> Decoder
@@ -41,6 +42,21 @@ impl Decoder {
             place,
             hash: Sha256::new(),
         }
+    }
+
+    // Takes the end of the first line of the last chunk: what is wrong there, where a trailer with a name of so many bytes
+    // follows. The next hash begins.
+    pub(crate) fn end_chunks(&mut self, name: usize) -> Option<Fault>
+        requires { name ≤ 32 }
+        ensures value { (current : List ℕ) → Holds256 self.old.hash current
+            → (result ≡ trailed.fault_at_end name self.old.place (sha256 current))
+            × (self.new.place ≡ trailed.chained self.old.place (sha256 current)) × Holds256 self.new.hash [] }
+        ensures span { self.new.place.span ≡ self.old.place.span }
+        ensures room { result ≡ None → (self.old.place.span.taken < self.old.place.span.whole)
+            × (self.old.place.span.whole ≤ self.old.place.span.taken + 192) }
+    {
+        let hash = self.hash.finalize_reset();
+        self.place.fault_at_end(name, hash)
     }
 
     // Where the byte ended a chunk, compares its signature, and begins the next hash.
@@ -146,6 +162,8 @@ impl Decoder {
             → reading.Keeps (S.taken sink.old) (S.taken sink.new) p (reading.run p (take n «bytes».now))) }
         ensures grows { Grows (S.taken sink.old) (S.taken sink.new) }
         ensures cause { OnErr result ((refused : List ℕ) × S.may_refuse sink.old refused) }
+        ensures before { reading.is_at_end self.old.place.phase ≡ false → IfOk result (λ n. (p : reading.Progress)
+            → reading.Shows self.old p → reading.StandBefore p «bytes».now n) }
     {
         let count = self.data_there(left, bytes.len());
         self.take_data(left, last, &bytes[..count], sink)?;
@@ -162,6 +180,8 @@ impl Decoder {
             → reading.Shows self.new (reading.run p (take 1 «bytes».now)) }
         ensures held { (p : reading.Progress) → reading.Shows self.old p
             → (reading.run p (take 1 «bytes».now)).held ≡ p.held }
+        ensures before { reading.is_at_end self.old.place.phase ≡ false → (p : reading.Progress)
+            → reading.Shows self.old p → reading.StandBefore p «bytes».now 1 }
     {
         self.take_byte(bytes[0]);
     }
@@ -180,6 +200,8 @@ impl Decoder {
             → reading.Keeps (S.taken sink.old) (S.taken sink.new) p (reading.run p (take n «bytes».now))) }
         ensures grows { Grows (S.taken sink.old) (S.taken sink.new) }
         ensures cause { OnErr result ((refused : List ℕ) × S.may_refuse sink.old refused) }
+        ensures before { reading.is_at_end self.old.place.phase ≡ false → IfOk result (λ n. (p : reading.Progress)
+            → reading.Shows self.old p → reading.StandBefore p «bytes».now n) }
     {
         match self.place.phase {
             Phase::Data(left, last) if left > 0 => self.step_data(left, last, bytes, sink),
@@ -190,10 +212,17 @@ impl Decoder {
         }
     }
 
-    // Takes these bytes up to where no byte is read any more, and says how many it took.
-    pub(crate) fn advance<S: Sink>(&mut self, bytes: &[u8], sink: &mut S) -> Result<usize, NoMemory>
+    // Takes these bytes up to where no byte is read any more, or at the front of a body up to the first line of its last
+    // chunk, and says how many it took.
+    #[tactic(auto, using(crate::proofs::BeforeLemmas::stops_closed, crate::proofs::BeforeLemmas::none_before))]
+    pub(crate) fn advance<S: Sink>(
+        &mut self,
+        front: bool,
+        bytes: &[u8],
+        sink: &mut S,
+    ) -> Result<usize, NoMemory>
         ensures count { IfOk result (λ n. n ≤ length «bytes».now) }
-        ensures all { IfOk result (λ n. (n ≡ length «bytes».now) ⊎ (reading.is_closed self.new.place ≡ true)) }
+        ensures all { IfOk result (λ n. (n ≡ length «bytes».now) ⊎ (reading.stops front self.new.place ≡ true)) }
         ensures span { IfOk result (λ n. self.new.place.span ≡ advanced self.old.place.span n) }
         ensures counts { (self.old.place.span.taken ≤ self.new.place.span.taken)
             × (self.new.place.span.taken ≤ self.old.place.span.taken + length «bytes».now) }
@@ -204,10 +233,12 @@ impl Decoder {
         ensures grows { Grows (S.taken sink.old) (S.taken sink.new) }
         ensures some { OnErr result (0 < length «bytes».now) }
         ensures room { OnErr result (self.old.place.span.taken < self.old.place.span.whole) }
+        ensures before { front ≡ true → IfOk result (λ n. (p : reading.Progress)
+            → reading.Shows self.old p → reading.StandBefore p «bytes».now n) }
         ensures cause { OnErr result ((state : S) × (refused : List ℕ) × S.may_refuse state refused) }
     {
         let mut taken = 0;
-        while taken < bytes.len() && !self.place.is_closed() {
+        while taken < bytes.len() && !self.place.stops(front) {
             taken += self.step(&bytes[taken..], sink)?;
         }
         Ok(taken)

@@ -56,7 +56,7 @@ pub(crate) enum Phase {
 }
 
 impl Phase {
-    ghost use Rattle.s3_aws_chunked.specs.Decoder.{fault_at, is_settled};
+    ghost use Rattle.s3_aws_chunked.specs.Decoder.{fault_at, is_at_end, is_settled};
 
     // In the size of a chunk, before its first digit.
     pub(crate) fn start() -> Phase
@@ -70,6 +70,17 @@ impl Phase {
         ensures { result ≡ is_settled self }
     {
         matches!(self, Phase::Over | Phase::Refused(_))
+    }
+
+    // Whether the first line of the last chunk has come.
+    pub(crate) fn is_at_end(self) -> bool
+        ensures { result ≡ is_at_end self }
+    {
+        match self {
+            Phase::Data(_, last) => last,
+            Phase::Size(_) | Phase::Line(_, _) | Phase::Ending(_) => false,
+            Phase::Over | Phase::Refused(_) => false,
+        }
     }
 
     // What is wrong, where it refused.

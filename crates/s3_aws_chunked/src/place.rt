@@ -1,7 +1,8 @@
 //! Where a reader stands in a body: what it counts, and what it compares.
 
-ghost use Rattle.std.specs.Prelude.{◌≡◌};
+ghost use Rattle.std.specs.Prelude.{◌≡◌, ◌+◌, ◌<◌, ◌≤◌, None};
 ghost use Rattle.s3_aws_chunked.specs.Phase.{IsEvent};
+ghost use Rattle.s3_aws_chunked.specs.Trailer.{is_room};
 
 use crate::phase::{Event, Fault, Phase};
 use crate::span::Span;
@@ -22,14 +23,35 @@ pub(crate) struct Place {
     pub(crate) phase: Phase,
 }
 
+// Whether so many bytes may be a trailer with a name of so many.
+fn is_room(name: usize, room: u64) -> bool
+    requires { name ≤ 32 }
+    ensures { result ≡ is_room name room }
+{
+    let name = name as u64;
+    name + 96 <= room && room <= name + 160
+}
+
 impl Place {
     ghost use Rattle.s3_aws_chunked.specs.Decoder as reading;
+    ghost use Rattle.s3_aws_chunked.specs.Trailed as trailed;
 
     // Whether no byte is read any more.
     pub(crate) fn is_closed(&self) -> bool
         ensures { result ≡ reading.is_closed self.now }
     {
         self.phase.is_settled() || self.span.taken() >= self.span.whole()
+    }
+
+    // Whether no byte is read any more, or at the front of a body no byte behind the first line of its last chunk.
+    pub(crate) fn stops(&self, front: bool) -> bool
+        ensures { result ≡ reading.stops front self.now }
+    {
+        if front {
+            self.is_closed() || self.phase.is_at_end()
+        } else {
+            self.is_closed()
+        }
     }
 
     // Refuses from now on.
@@ -82,6 +104,30 @@ impl Place {
         } else {
             self.refuse(Fault::Forged);
         }
+    }
+
+    // What is wrong at the end of the first line of the last chunk, behind which a trailer with a name of so many bytes
+    // stands. The chain goes on behind that chunk.
+    #[tactic(auto, unfolding(crate::specs::Trailed::fault_at_end))]
+    pub(crate) fn fault_at_end(&mut self, name: usize, hash: [u8; 32]) -> Option<Fault>
+        requires { name ≤ 32 }
+        ensures value { result ≡ trailed.fault_at_end name self.old hash }
+        ensures new { self.new ≡ trailed.chained self.old hash }
+        ensures span { self.new.span ≡ self.old.span }
+        ensures room { result ≡ None
+            → (self.old.span.taken < self.old.span.whole) × (self.old.span.whole ≤ self.old.span.taken + 192) }
+    {
+        let room = self.span.left();
+        if !self.chain.is_next(hash, &self.signature) {
+            return Some(Fault::Forged);
+        }
+        if self.left > 0 {
+            return Some(Fault::Incomplete);
+        }
+        if !is_room(name, room) {
+            return Some(Fault::Invalid);
+        }
+        None
     }
 
     // Refuses where all bytes of Content-Length have come without the empty chunk.

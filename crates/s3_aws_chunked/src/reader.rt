@@ -96,7 +96,7 @@ impl ChunkReader {
         if let Some(code) = self.refusal() {
             return Err(code);
         }
-        let Ok(count) = self.decoder.advance(piece, sink) else {
+        let Ok(count) = self.decoder.advance(false, piece, sink) else {
             self.lost = true;
             return Err(Code::InternalError);
         };

@@ -1,6 +1,6 @@
 //! How much of a body has come.
 
-ghost use Rattle.std.specs.Prelude.{◌≡◌, ◌+◌, ◌≤◌};
+ghost use Rattle.std.specs.Prelude.{◌≡◌, ◌+◌, ◌-◌, ◌≤◌};
 ghost use Rattle.s3_aws_chunked.specs.Count.{advanced};
 
 use std::marker::Model;
@@ -47,7 +47,8 @@ impl Span {
 
     // How many are to come.
     pub(crate) fn left(&self) -> u64
-        ensures { result + self.now.taken ≡ self.now.whole }
+        ensures sum { result + self.now.taken ≡ self.now.whole }
+        ensures value { result ≡ self.now.whole - self.now.taken }
     {
         self.whole - self.taken
     }

@@ -9,7 +9,7 @@ use Rattle.s3_aws_chunked.specs.Finality.{DecidesAs, IsDecided}
 use Rattle.s3_aws_chunked.specs.Finality as chunked
 use Rattle.s3_payloads.specs.declared.form.Digests.{Digests}
 use Rattle.s3_payloads.specs.declared.form.Form.{Form}
-use Rattle.s3_payloads.specs.declared.form.Form.TheVariants.{Whole, Chunks, UnsignedChunks}
+use Rattle.s3_payloads.specs.declared.form.Form.TheVariants.{Whole, Chunks, TrailedChunks}
 use Rattle.s3_payloads.specs.Form.{Announced, IsSentAsItIs}
 use Rattle.s3_payloads.specs.Verdict.{JudgesForm, checked_data, decided_at, has_digests, has_hash, terms_of, trailed_terms, whole_verdict}
 use Rattle.s3_payloads.specs.Trailed.{TrailedAreShort, TrailedAreWhole, TrailedEnd, TrailedStay, verdict_on}
@@ -29,8 +29,8 @@ stay_form law trails (Whole hash digests) announced bytes more ended verdict is 
     is ∙ sym (verdict_stays hash digests announced.length ended bytes more (whole_decided hash digests announced.length bytes verdict is decided))
 stay_form law trails (Chunks decoded) announced bytes more ended verdict judged decided =
     law (terms_of announced decoded) bytes more ended verdict judged decided
-stay_form law trails (UnsignedChunks decoded algorithm) announced bytes more ended verdict is decided =
-    is ∙ sym (trails algorithm (trailed_terms announced decoded algorithm) bytes more ended (subst IsDecided is decided))
+stay_form law trails (TrailedChunks decoded algorithm signed) announced bytes more ended verdict is decided =
+    is ∙ sym (trails algorithm (trailed_terms announced decoded algorithm signed) bytes more ended (subst IsDecided is decided))
 
 same_decides : (verdict : Verdict) → DecidesAs verdict verdict
 same_decides (Refused place code) = (refl, refl)
@@ -42,14 +42,14 @@ pub one_form : chunked.VerdictsAreOne → (form : Form) (announced : Announced) 
 one_form law (Whole hash digests) announced bytes ended one other is also = subst (DecidesAs one) (is ∙ sym also) (same_decides one)
 one_form law (Chunks decoded) announced bytes ended one other judged also =
     law (terms_of announced decoded) bytes ended one other judged also
-one_form law (UnsignedChunks decoded algorithm) announced bytes ended one other is also = subst (DecidesAs one) (is ∙ sym also) (same_decides one)
+one_form law (TrailedChunks decoded algorithm signed) announced bytes ended one other is also = subst (DecidesAs one) (is ∙ sym also) (same_decides one)
 
 pub exist_form : chunked.VerdictsExist → (form : Form) (announced : Announced) (bytes : List ℕ) (ended : Bool)
     → (verdict : Verdict) × JudgesForm form announced bytes ended verdict
 exist_form law (Whole hash digests) announced bytes ended = (whole_verdict hash digests announced.length ended bytes, refl)
 exist_form law (Chunks decoded) announced bytes ended = law (terms_of announced decoded) bytes ended
-exist_form law (UnsignedChunks decoded algorithm) announced bytes ended =
-    (verdict_on algorithm (trailed_terms announced decoded algorithm) bytes ended, refl)
+exist_form law (TrailedChunks decoded algorithm signed) announced bytes ended =
+    (verdict_on algorithm (trailed_terms announced decoded algorithm signed) bytes ended, refl)
 
 -- ---- the end of the input decides
 
@@ -62,8 +62,8 @@ pub end_form : chunked.EndsDecide → TrailedEnd → (form : Form) (announced : 
     → JudgesForm form announced bytes true verdict → IsDecided verdict
 end_form law trails (Whole hash digests) announced bytes verdict is = whole_ends hash digests announced.length bytes verdict is
 end_form law trails (Chunks decoded) announced bytes verdict judged = law (terms_of announced decoded) bytes verdict judged
-end_form law trails (UnsignedChunks decoded algorithm) announced bytes verdict is =
-    subst IsDecided (sym is) (trails algorithm (trailed_terms announced decoded algorithm) bytes)
+end_form law trails (TrailedChunks decoded algorithm signed) announced bytes verdict is =
+    subst IsDecided (sym is) (trails algorithm (trailed_terms announced decoded algorithm signed) bytes)
 
 -- ---- a body that is accepted is whole
 
@@ -98,8 +98,8 @@ front_decides trails (Whole hash digests) announced bytes ended payload (Open he
     absurd (whole_open hash digests announced.length (take announced.length bytes) held (omega (arith, length-take-le announced.length bytes come)) front)
 front_decides trails (Chunks decoded) announced bytes ended payload (Open held) come accepted front =
     absurd (front.1 payload (accepted_front (terms_of announced decoded) bytes payload accepted.1))
-front_decides trails (UnsignedChunks decoded algorithm) announced bytes ended payload (Open held) come accepted front =
-    let short = trails algorithm (trailed_terms announced decoded algorithm) (take announced.length bytes) held front in
+front_decides trails (TrailedChunks decoded algorithm signed) announced bytes ended payload (Open held) come accepted front =
+    let short = trails algorithm (trailed_terms announced decoded algorithm signed) (take announced.length bytes) held front in
     absurd (omega (arith, short, length-take-le announced.length bytes come))
 
 same_accepted : (verdict : Verdict) (payload : List ℕ) → DecidesAs verdict (Accepted payload) → verdict ≡ Accepted payload
@@ -138,7 +138,7 @@ pub whole_payload : (form : Form) (announced : Announced) (body payload : List �
     → JudgesForm form announced body ended (Accepted payload) → payload ≡ body
 unfolding whole_verdict
 whole_payload (Chunks decoded) announced body payload ended sent size is = absurd sent
-whole_payload (UnsignedChunks decoded algorithm) announced body payload ended sent size is = absurd sent
+whole_payload (TrailedChunks decoded algorithm signed) announced body payload ended sent size is = absurd sent
 whole_payload (Whole hash digests) announced body payload ended sent size is =
     let come : nat_le announced.length (length body) ≡ true = nat_le-true announced.length (length body) (omega (arith, size)) in
     decided_payload announced.length hash digests body payload (rw (come, take_all announced.length body (omega (arith, size))) at is)

@@ -31,14 +31,14 @@ whole_judges : (form : Form) (whole : WholeState) (announced : Announced) (bytes
     → WholeFor form whole announced bytes ended → JudgesForm form announced bytes ended (told whole.bytes whole.stage)
 whole_judges (forms.Whole hash digests) whole announced bytes ended stands = stands.told
 whole_judges (forms.Chunks decoded) whole announced bytes ended stands = absurd stands
-whole_judges (forms.UnsignedChunks decoded algorithm) whole announced bytes ended stands = absurd stands
+whole_judges (forms.TrailedChunks decoded algorithm signed) whole announced bytes ended stands = absurd stands
 
 chunks_judge : ReadersJudge → (form : Form) (chunks : ChunksReader) (announced : Announced) (bytes : List ℕ) (ended : Bool)
     → ChunksFor form chunks announced bytes ended → JudgesForm form announced bytes ended (chunked.verdict_of chunks.chunks chunks.payload)
 chunks_judge law (forms.Whole hash digests) chunks announced bytes ended stands = absurd stands
 chunks_judge law (forms.Chunks decoded) chunks announced bytes ended stands =
     law chunks.chunks (terms_of announced decoded) bytes ended chunks.payload stands
-chunks_judge law (forms.UnsignedChunks decoded algorithm) chunks announced bytes ended stands = absurd stands
+chunks_judge law (forms.TrailedChunks decoded algorithm signed) chunks announced bytes ended stands = absurd stands
 
 pub judge_mode : ReadersJudge → TrailedJudge → (mode : Mode) (announced : Announced) (bytes : List ℕ) (ended : Bool)
     → ModeStands mode announced bytes ended → Judges announced bytes ended (mode_verdict mode)
@@ -53,7 +53,7 @@ whole_counts : (form : Form) (whole : WholeState) (announced : Announced) (bytes
 whole_counts (forms.Whole hash digests) whole announced bytes ended stands =
     ap length stands.taken ∙ length-take announced.length bytes
 whole_counts (forms.Chunks decoded) whole announced bytes ended stands = absurd stands
-whole_counts (forms.UnsignedChunks decoded algorithm) whole announced bytes ended stands = absurd stands
+whole_counts (forms.TrailedChunks decoded algorithm signed) whole announced bytes ended stands = absurd stands
 
 chunks_count : ReadersCount → (form : Form) (chunks : ChunksReader) (announced : Announced) (bytes : List ℕ) (ended : Bool)
     → ChunksFor form chunks announced bytes ended → ((code : Code) → ¬ (chunked.Failed chunks.chunks code))
@@ -61,7 +61,7 @@ chunks_count : ReadersCount → (form : Form) (chunks : ChunksReader) (announced
 chunks_count law (forms.Whole hash digests) chunks announced bytes ended stands never = absurd stands
 chunks_count law (forms.Chunks decoded) chunks announced bytes ended stands never =
     law chunks.chunks (terms_of announced decoded) bytes ended chunks.payload stands never
-chunks_count law (forms.UnsignedChunks decoded algorithm) chunks announced bytes ended stands never = absurd stands
+chunks_count law (forms.TrailedChunks decoded algorithm signed) chunks announced bytes ended stands never = absurd stands
 
 pub count_mode : ReadersCount → TrailedCount → (mode : Mode) (announced : Announced) (bytes : List ℕ) (ended : Bool)
     → ModeStands mode announced bytes ended → ((code : Code) → ¬ (ModeFailed mode code))
@@ -82,7 +82,7 @@ chunks_within : ReadersStayWithin → (form : Form) (chunks : ChunksReader) (ann
 chunks_within law (forms.Whole hash digests) chunks announced bytes ended stands = absurd stands
 chunks_within law (forms.Chunks decoded) chunks announced bytes ended stands =
     law chunks.chunks (terms_of announced decoded) bytes ended chunks.payload stands
-chunks_within law (forms.UnsignedChunks decoded algorithm) chunks announced bytes ended stands = absurd stands
+chunks_within law (forms.TrailedChunks decoded algorithm signed) chunks announced bytes ended stands = absurd stands
 
 pub within_mode : ReadersStayWithin → TrailedStayWithin → (mode : Mode) (announced : Announced) (bytes : List ℕ) (ended : Bool)
     → ModeStands mode announced bytes ended → mode_taken mode ≤ length bytes
@@ -107,7 +107,7 @@ chunks_fail : (form : Form) (chunks : ChunksReader) (announced : Announced) (byt
 chunks_fail (forms.Whole hash digests) chunks announced bytes ended code stands is = absurd stands
 chunks_fail (forms.Chunks decoded) chunks announced bytes ended code stands is =
     phase_fails chunks.chunks.decoder.place.phase (chunked.taken_of chunks.chunks) chunks.payload code (rw stands.kept at is)
-chunks_fail (forms.UnsignedChunks decoded algorithm) chunks announced bytes ended code stands is = absurd stands
+chunks_fail (forms.TrailedChunks decoded algorithm signed) chunks announced bytes ended code stands is = absurd stands
 
 pub fail_mode : (mode : Mode) (announced : Announced) (bytes : List ℕ) (ended : Bool) (code : Code)
     → ModeStands mode announced bytes ended → ModeFailed mode code → mode_verdict mode ≡ Refused (mode_taken mode) code
@@ -137,5 +137,5 @@ pub accepted_come : TrailedAreWhole → (form : Form) (announced : Announced) (b
     → JudgesForm form announced bytes ended (Accepted held) → announced.length ≤ length bytes
 accepted_come whole (forms.Whole hash digests) announced bytes ended held is = whole_come hash digests announced.length ended bytes held is
 accepted_come whole (forms.Chunks decoded) announced bytes ended held is = is.1.come
-accepted_come whole (forms.UnsignedChunks decoded algorithm) announced bytes ended held is =
-    whole algorithm (trailed_terms announced decoded algorithm) bytes held ended is
+accepted_come whole (forms.TrailedChunks decoded algorithm signed) announced bytes ended held is =
+    whole algorithm (trailed_terms announced decoded algorithm signed) bytes held ended is

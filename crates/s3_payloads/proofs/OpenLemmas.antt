@@ -14,7 +14,7 @@ use Rattle.s3_aws_chunked.specs.declared.phase.Phase.{Phase}
 use Rattle.s3_aws_chunked.specs.declared.phase.Phase.TheVariants as phases
 use Rattle.s3_payloads.specs.declared.form.Digests.{Digests}
 use Rattle.s3_payloads.specs.declared.form.Form.{Form}
-use Rattle.s3_payloads.specs.declared.form.Form.TheVariants.{Whole, Chunks, UnsignedChunks}
+use Rattle.s3_payloads.specs.declared.form.Form.TheVariants.{Whole, Chunks, TrailedChunks}
 use Rattle.s3_payloads.specs.declared.reader.Mode.{Mode}
 use Rattle.s3_payloads.specs.declared.reader.Mode.TheVariants as modes
 use Rattle.s3_payloads.specs.declared.whole.Stage.{Stage}
@@ -42,13 +42,13 @@ pub short_form : chunked.OpenBodiesAreShort → TrailedAreShort → (form : Form
     → JudgesForm form announced bytes false (Open held) → length bytes < announced.length
 short_form law trails (Whole hash digests) announced bytes held is = whole_short hash digests announced.length bytes held is
 short_form law trails (Chunks decoded) announced bytes held judged = law (terms_of announced decoded) bytes held judged
-short_form law trails (UnsignedChunks decoded algorithm) announced bytes held is = trails algorithm (trailed_terms announced decoded algorithm) bytes held is
+short_form law trails (TrailedChunks decoded algorithm signed) announced bytes held is = trails algorithm (trailed_terms announced decoded algorithm signed) bytes held is
 
 pub incomplete_form : chunked.OpenBodiesEndIncomplete → TrailedEndIncomplete → (form : Form) (announced : Announced) (bytes held : List ℕ)
     → JudgesForm form announced bytes false (Open held) → JudgesForm form announced bytes true (Refused (length bytes) IncompleteBody)
 incomplete_form law trails (Whole hash digests) announced bytes held is = sym (open_ends hash digests announced.length bytes held false is)
 incomplete_form law trails (Chunks decoded) announced bytes held judged = law (terms_of announced decoded) bytes held judged
-incomplete_form law trails (UnsignedChunks decoded algorithm) announced bytes held is = trails algorithm (trailed_terms announced decoded algorithm) bytes held is
+incomplete_form law trails (TrailedChunks decoded algorithm signed) announced bytes held is = trails algorithm (trailed_terms announced decoded algorithm signed) bytes held is
 
 -- ---- a refusal stands at its place
 
@@ -78,7 +78,7 @@ pub stand_form : chunked.RefusalsStand → TrailedRefusalsStand → (form : Form
     → (place ≤ length bytes) × JudgesForm form announced (take place bytes) false (Refused place code)
 stand_form law trails (Whole hash digests) announced bytes place code is = whole_stands hash digests announced.length place bytes code is
 stand_form law trails (Chunks decoded) announced bytes place code judged = law (terms_of announced decoded) bytes place code judged
-stand_form law trails (UnsignedChunks decoded algorithm) announced bytes place code is = trails algorithm (trailed_terms announced decoded algorithm) bytes place code is
+stand_form law trails (TrailedChunks decoded algorithm signed) announced bytes place code is = trails algorithm (trailed_terms announced decoded algorithm signed) bytes place code is
 
 -- what is refused within some bytes isn't open behind them
 pub behind_form : chunked.RefusalsStand → chunked.VerdictsStay → chunked.VerdictsAreOne → TrailedRefusalsStand → TrailedStay

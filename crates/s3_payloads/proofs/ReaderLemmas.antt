@@ -20,7 +20,7 @@ pub chunks_fed_for : (form : Form) (announced : Announced) (old new : ChunksRead
     → FedTo piece (part_of announced.length bytes piece) (ChunksFor form new announced (bytes ++ piece) false) (chunked.Failed new.chunks) result
 chunks_fed_for (forms.Whole hash digests) announced old new bytes piece result stands fed = absurd stands
 chunks_fed_for (forms.Chunks decoded) announced old new bytes piece result stands fed = fed (terms_of announced decoded) stands
-chunks_fed_for (forms.UnsignedChunks decoded algorithm) announced old new bytes piece result stands fed = absurd stands
+chunks_fed_for (forms.TrailedChunks decoded algorithm signed) announced old new bytes piece result stands fed = absurd stands
 
 -- the end of input
 pub chunks_ended_for : (form : Form) (announced : Announced) (old new : ChunksReader) (bytes : List ℕ) (result : Result ⊤ Code)
@@ -30,4 +30,4 @@ pub chunks_ended_for : (form : Form) (announced : Announced) (old new : ChunksRe
     → EndedTo (ChunksFor form new announced bytes true) (chunked.Failed new.chunks) (chunked.IsDone new.chunks) result
 chunks_ended_for (forms.Whole hash digests) announced old new bytes result stands ended = absurd stands
 chunks_ended_for (forms.Chunks decoded) announced old new bytes result stands ended = ended (terms_of announced decoded) stands
-chunks_ended_for (forms.UnsignedChunks decoded algorithm) announced old new bytes result stands ended = absurd stands
+chunks_ended_for (forms.TrailedChunks decoded algorithm signed) announced old new bytes result stands ended = absurd stands

@@ -5,7 +5,7 @@ use Rattle.s3_http_heads.specs.Head.{only}
 use Rattle.std.specs.Str.{bytes_eq}
 use Rattle.std.proofs.lemmas.Bool.{cases_Bool}
 use Rattle.std.proofs.lemmas.Slice.Eq.{bytes_eq-Decides}
-use Rattle.s3_signing.specs.Word.{signed_chunks, unsigned_chunks, unsigned_payload}
+use Rattle.s3_signing.specs.Word.{signed_chunks, trailed_chunks, unsigned_chunks, unsigned_payload}
 use Rattle.s3_payloads.specs.Form.{hash_in}
 
 pub bytes_eq-other_length : (xs ys : List ℕ) → length xs ≢ length ys → bytes_eq xs ys ≡ false
@@ -23,6 +23,9 @@ no_chunks_hash digits many = bytes_eq-other_length digits signed_chunks (omega a
 
 pub no_unsigned_chunks_hash : (digits : List ℕ) → length digits ≡ 64 → bytes_eq digits unsigned_chunks ≡ false
 no_unsigned_chunks_hash digits many = bytes_eq-other_length digits unsigned_chunks (omega arith)
+
+pub no_trailed_chunks_hash : (digits : List ℕ) → length digits ≡ 64 → bytes_eq digits trailed_chunks ≡ false
+no_trailed_chunks_hash digits many = bytes_eq-other_length digits trailed_chunks (omega arith)
 
 -- the first value of a header that was sent once is its only one
 pub only_first : (values : List (List ℕ)) → length values ≡ 1 → only values ≡ slice_get values 0

@@ -1,7 +1,7 @@
 -- What a head says of its body: how it is sent, and what has to be found of it (AWS Signature Version 4,
 -- "Signature calculations for the Authorization header: transferring payload in multiple chunks"; Amazon S3
 -- API Reference, "PutObject", Content-MD5; RFC 1864).
-use Rattle.std.specs.Prelude.{ℕ, Bool, false, ◌==◌, nat_lt, if◌then◌else◌, List, [], ◌∷◌, length, codes, Option, Some, None, option_and_then, option_map, ok_or, Result, Ok, Err}
+use Rattle.std.specs.Prelude.{ℕ, Bool, true, false, ◌==◌, nat_lt, if◌then◌else◌, List, [], ◌∷◌, length, codes, Option, Some, None, option_and_then, option_map, ok_or, Result, Ok, Err}
 use Rattle.std.specs.List.{list_any}
 use Rattle.std.specs.Str.{bytes_eq}
 use Rattle.base64.specs.Engines.{standard}
@@ -16,14 +16,14 @@ use Rattle.s3_http_heads.specs.Head.{HeadParts, is_sent, only, values_of}
 use Rattle.s3_http_heads.specs.BodyLength.{decoded_length}
 use Rattle.s3_http_heads.specs.Method.{is_put, method_of}
 use Rattle.s3_signing.specs.Verdict.{Proved}
-use Rattle.s3_signing.specs.Word.{signed_chunks, unsigned_chunks, unsigned_payload}
+use Rattle.s3_signing.specs.Word.{signed_chunks, trailed_chunks, unsigned_chunks, unsigned_payload}
 use Rattle.s3_integrity.specs.Algorithm.{algorithms, header_of, named}
 use Rattle.s3_integrity.specs.Sum.{checksum_of}
 use Rattle.s3_integrity.specs.declared.algorithm.ChecksumAlgorithm.{ChecksumAlgorithm}
 use Rattle.s3_integrity.specs.declared.checksum.Checksum.{Checksum}
 use Rattle.s3_payloads.specs.declared.form.Digests.{Digests}
 use Rattle.s3_payloads.specs.declared.form.Form.{Form}
-use Rattle.s3_payloads.specs.declared.form.Form.TheVariants.{Whole, Chunks, UnsignedChunks}
+use Rattle.s3_payloads.specs.declared.form.Form.TheVariants.{Whole, Chunks, TrailedChunks}
 
 -- the bytes, if they are as many as an MD5 has
 abbrev pub as_digest : List ℕ → Option (List ℕ)
@@ -98,15 +98,15 @@ chunks_form settings head = do
 unfoldable pub trailer_announced : HeadParts → Result ChecksumAlgorithm Code
 trailer_announced head = ok_or (option_and_then named (only (values_of (codes "x-amz-trailer") head))) InvalidRequest
 
--- a body of chunks that are not signed, past what is wrong with its decoded length and its trailer; no line says a checksum
--- beside the trailer
-unfoldable pub unsigned_chunks_form : Settings → HeadParts → Result Form Code
-unsigned_chunks_form settings head = do
+-- a body of chunks with a trailer behind them, which are signed or not, past what is wrong with its decoded length and its
+-- trailer; no line says a checksum beside the trailer
+unfoldable pub trailed_chunks_form : Settings → HeadParts → Bool → Result Form Code
+trailed_chunks_form settings head signed = do
   decoded ← ok_or (decoded_length head) InvalidRequest
   refuse (nat_lt settings.body_limit decoded) EntityTooLarge
   algorithm ← trailer_announced head
   refuse (says_checksum settings.dialect head) InvalidRequest
-  Ok (UnsignedChunks decoded algorithm)
+  Ok (TrailedChunks decoded algorithm signed)
 
 -- a body that is sent as it is, past what is wrong with its Content-MD5 and its checksum
 unfoldable pub whole_form : Settings → HeadParts → List ℕ → Result Form Code
@@ -119,7 +119,8 @@ whole_form settings head word = do
 unfoldable pub form_of : Settings → HeadParts → List ℕ → Result Form Code
 form_of settings head word =
     if bytes_eq word signed_chunks then chunks_form settings head
-    else if bytes_eq word unsigned_chunks then unsigned_chunks_form settings head
+    else if bytes_eq word unsigned_chunks then trailed_chunks_form settings head false
+    else if bytes_eq word trailed_chunks then trailed_chunks_form settings head true
     else whole_form settings head word
 
 -- what was announced of a body: how many bytes it has as it is sent, by Content-Length, how it is sent, and what
@@ -140,4 +141,4 @@ announced_payload settings head size proved = do
 abbrev pub IsSentAsItIs : Form → Type 0
 IsSentAsItIs (Whole hash digests) = Unit {0}
 IsSentAsItIs (Chunks decoded) = ⊥
-IsSentAsItIs (UnsignedChunks decoded algorithm) = ⊥
+IsSentAsItIs (TrailedChunks decoded algorithm signed) = ⊥

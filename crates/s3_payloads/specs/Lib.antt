@@ -3,6 +3,7 @@ pub mod Outcome
 pub mod Verdict
 pub mod Whole
 pub mod Summed
+pub mod EitherChunks
 pub mod Trailed
 pub mod Reader
 pub mod Laws

@@ -23,19 +23,19 @@ abbrev pub WholeFor : Form → WholeState → Announced → List ℕ → Bool �
 WholeFor (forms.Whole hash digests) whole announced bytes ended =
     WholeStands whole hash digests announced.length bytes ended
 WholeFor (forms.Chunks decoded) whole announced bytes ended = ⊥
-WholeFor (forms.UnsignedChunks decoded algorithm) whole announced bytes ended = ⊥
+WholeFor (forms.TrailedChunks decoded algorithm signed) whole announced bytes ended = ⊥
 
 abbrev pub ChunksFor : Form → ChunksReader → Announced → List ℕ → Bool → Type 0
 ChunksFor (forms.Whole hash digests) chunks announced bytes ended = ⊥
 ChunksFor (forms.Chunks decoded) chunks announced bytes ended =
     chunked.Stands chunks.chunks (terms_of announced decoded) bytes ended chunks.payload
-ChunksFor (forms.UnsignedChunks decoded algorithm) chunks announced bytes ended = ⊥
+ChunksFor (forms.TrailedChunks decoded algorithm signed) chunks announced bytes ended = ⊥
 
 abbrev pub TrailedFor : Form → TrailedReader → Announced → List ℕ → Bool → Type 0
 TrailedFor (forms.Whole hash digests) trailed announced bytes ended = ⊥
 TrailedFor (forms.Chunks decoded) trailed announced bytes ended = ⊥
-TrailedFor (forms.UnsignedChunks decoded algorithm) trailed announced bytes ended =
-    TrailedStands trailed algorithm (trailed_terms announced decoded algorithm) bytes ended
+TrailedFor (forms.TrailedChunks decoded algorithm signed) trailed announced bytes ended =
+    TrailedStands trailed algorithm (trailed_terms announced decoded algorithm signed) bytes ended
 
 abbrev pub ModeStands : Mode → Announced → List ℕ → Bool → Type 0
 ModeStands (modes.Whole whole) announced bytes ended = WholeFor announced.form whole announced bytes ended

@@ -6,13 +6,13 @@ use Rattle.s3_terms.specs.declared.code.Code.TheVariants.{IncompleteBody}
 use Rattle.s3_aws_chunked.specs.Verdict.{Verdict, Accepted, Open, Refused}
 use Rattle.s3_aws_chunked.specs.Finality.{IsDecided}
 use Rattle.s3_integrity.specs.declared.algorithm.ChecksumAlgorithm.{ChecksumAlgorithm}
-use Rattle.s3_unsigned_chunks.specs.Reading.{Terms}
 use Rattle.s3_unsigned_chunks.specs.Verdict as unsigned
-use Rattle.s3_unsigned_chunks.specs.Reader as unsigned_reader
-use Rattle.s3_unsigned_chunks.specs.declared.reader.UnsignedChunkReader.{UnsignedChunkReader}
 use Rattle.s3_payloads.specs.declared.trailed.TrailedReader.{TrailedReader}
 use Rattle.s3_payloads.specs.Summed.{fault_in}
-use Rattle.s3_payloads.specs.Verdict.{trailed_data, trailed_verdict}
+use Rattle.s3_payloads.specs.EitherChunks.{ChunksStand, chunks_by, chunks_done, chunks_refusal, chunks_taken}
+use Rattle.s3_payloads.specs.declared.either_chunks.EitherChunks.{EitherChunks}
+use Rattle.s3_payloads.specs.Verdict.{chunks_verdict, trailed_data, trailed_verdict}
+use Rattle.s3_payloads.specs.Verdict.{TrailerTerms as Terms}
 
 -- what is wrong with the checksum, by what is known of the chunks
 abbrev pub wrong_in : ChecksumAlgorithm → unsigned.Verdict → Option Code
@@ -25,8 +25,8 @@ wrong_in algorithm (unsigned.Open bytes) = None
 pub record TrailedStands (reader : TrailedReader) (algorithm : ChecksumAlgorithm) (terms : Terms) (bytes : List ℕ) (ended : Bool)
     : Type 0 where
   pub kind : reader.summed.algorithm ≡ algorithm
-  pub shows : unsigned_reader.Stands reader.chunks terms bytes ended reader.summed.bytes
-  pub judged : reader.wrong ≡ wrong_in algorithm (unsigned_reader.verdict_by reader.chunks reader.summed.bytes)
+  pub shows : ChunksStand reader.chunks terms bytes ended reader.summed.bytes
+  pub judged : reader.wrong ≡ wrong_in algorithm (chunks_by reader.chunks reader.summed.bytes)
 
 -- what is said of a body by its chunks, of which so many bytes were taken, and by what is wrong with its checksum
 abbrev pub told_by : Option Code → ℕ → unsigned.Verdict → Verdict
@@ -38,12 +38,12 @@ told_by None taken (unsigned.Open bytes) = Open bytes
 -- what the reader says of its body
 abbrev pub trailed_by : TrailedReader → Verdict
 trailed_by reader =
-    told_by reader.wrong (unsigned_reader.taken_of reader.chunks) (unsigned_reader.verdict_by reader.chunks reader.summed.bytes)
+    told_by reader.wrong (chunks_taken reader.chunks) (chunks_by reader.chunks reader.summed.bytes)
 
 -- the code of a refusal: of the checksum, or of the chunks
-abbrev pub refusal_by : Option Code → UnsignedChunkReader → Option Code
+abbrev pub refusal_by : Option Code → EitherChunks → Option Code
 refusal_by (Some code) chunks = Some code
-refusal_by None chunks = unsigned_reader.refusal_of chunks
+refusal_by None chunks = chunks_refusal chunks
 
 -- the reader has refused with this code
 abbrev pub TrailedFailed : TrailedReader → Code → Type 0
@@ -51,11 +51,11 @@ TrailedFailed reader code = refusal_by reader.wrong reader.chunks ≡ Some code
 
 -- it has read a whole body, with nothing wrong
 abbrev pub TrailedDone : TrailedReader → Type 0
-TrailedDone reader = (reader.wrong ≡ None) × unsigned_reader.IsDone reader.chunks
+TrailedDone reader = (reader.wrong ≡ None) × chunks_done reader.chunks
 
 -- how many bytes of the body it has taken
 abbrev pub trailed_taken : TrailedReader → ℕ
-trailed_taken reader = unsigned_reader.taken_of reader.chunks
+trailed_taken reader = chunks_taken reader.chunks
 
 -- what is answered, where so many bytes of a piece were taken
 abbrev pub answered_by : Option Code → ℕ → Result ℕ Code
@@ -66,7 +66,7 @@ answered_by None count = Ok count
 
 -- the verdict on these bytes
 abbrev pub verdict_on : ChecksumAlgorithm → Terms → List ℕ → Bool → Verdict
-verdict_on algorithm terms bytes ended = trailed_verdict algorithm terms.encoded (unsigned.verdict_of terms bytes ended)
+verdict_on algorithm terms bytes ended = trailed_verdict algorithm terms.encoded (chunks_verdict terms bytes ended)
 
 -- a reader that stands after some bytes of a body says of it what they say
 abbrev pub TrailedJudge : Type 0

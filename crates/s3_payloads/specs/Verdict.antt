@@ -1,6 +1,6 @@
 -- What is known of a body by the bytes that have come behind its head (Amazon S3 API Reference, "Error
 -- responses": IncompleteBody, XAmzContentSHA256Mismatch, BadDigest).
-use Rattle.std.specs.Prelude.{◌≡◌, ℕ, Bool, true, not, ◌&&◌, nat_le, if◌then◌else◌, List, take, length, Option, Some, None, ok_or, Result, Ok, Err}
+use Rattle.std.specs.Prelude.{◌≡◌, ℕ, Bool, true, false, not, ◌&&◌, nat_le, if◌then◌else◌, List, take, length, Option, Some, None, ok_or, Result, Ok, Err}
 use Rattle.std.specs.Str.{bytes_eq}
 use Rattle.hex.specs.Hex.{encode_lower}
 use Rattle.md5.specs.Md5.{md5}
@@ -15,9 +15,11 @@ use Rattle.s3_unsigned_chunks.specs.Reading as trailers
 use Rattle.s3_unsigned_chunks.specs.Verdict as unsigned
 use Rattle.s3_payloads.specs.declared.form.Digests.{Digests}
 use Rattle.s3_payloads.specs.declared.form.Form.{Form}
-use Rattle.s3_payloads.specs.declared.form.Form.TheVariants.{Whole, Chunks, UnsignedChunks}
+use Rattle.s3_payloads.specs.declared.form.Form.TheVariants.{Whole, Chunks, TrailedChunks}
 use Rattle.s3_payloads.specs.Form.{Announced}
-use Rattle.s3_signing.specs.Chain.{seed_of}
+use Rattle.s3_aws_chunked.specs.Trailed.{TrailedTerms}
+use Rattle.s3_aws_chunked.specs.Trailed as trailed
+use Rattle.s3_signing.specs.Chain.{Link, seed_of}
 use Rattle.s3_terms.specs.Fault.{refuse, ◌>>◌, ◌>>=◌}
 use Rattle.s3_terms.specs.declared.code.Code.{Code}
 use Rattle.s3_terms.specs.declared.code.Code.TheVariants.{IncompleteBody, XAmzContentSHA256Mismatch, InvalidRequest, BadDigest}
@@ -81,19 +83,50 @@ trailed_verdict algorithm size (unsigned.Refused place code) = Refused place cod
 trailed_verdict algorithm size (unsigned.Accepted bytes value) = decided_at size (trailed_data algorithm value bytes)
 trailed_verdict algorithm size (unsigned.Open bytes) = Open bytes
 
--- what the chunks of such a body have to come to, with a trailer of the name of the checksum's header
-abbrev pub trailed_terms : Announced → ℕ → ChecksumAlgorithm → trailers.Terms
-trailed_terms announced decoded algorithm =
-    record { name = header_of algorithm; encoded = announced.length; decoded = decoded }
+-- what the chunks of such a body have to come to: a trailer of the name of the checksum's header, both lengths, and, where they
+-- are signed, what the chain of their signatures begins with
+pub record TrailerTerms : Type 0 where
+  pub name : List ℕ
+  pub encoded : ℕ
+  pub decoded : ℕ
+  pub seed : Option Link
+
+-- the same for chunks without signatures, and for signed ones
+abbrev pub unsigned_terms : TrailerTerms → trailers.Terms
+unsigned_terms terms = record { name = terms.name; encoded = terms.encoded; decoded = terms.decoded }
+
+abbrev pub signed_terms : TrailerTerms → Link → TrailedTerms
+signed_terms terms seed = record { name = terms.name; chunks = record { seed = seed; encoded = terms.encoded; decoded = terms.decoded } }
+
+-- the verdict on the chunks
+abbrev pub chunks_verdict_by : Option Link → TrailerTerms → List ℕ → Bool → unsigned.Verdict
+chunks_verdict_by None terms bytes ended = unsigned.verdict_of (unsigned_terms terms) bytes ended
+chunks_verdict_by (Some seed) terms bytes ended = trailed.verdict_of (signed_terms terms seed) bytes ended
+
+abbrev pub chunks_verdict : TrailerTerms → List ℕ → Bool → unsigned.Verdict
+chunks_verdict terms bytes ended = chunks_verdict_by terms.seed terms bytes ended
+
+-- what was announced of them
+abbrev pub seed_if : Bool → Link → Option Link
+seed_if true seed = Some seed
+seed_if false seed = None
+
+abbrev pub trailed_terms : Announced → ℕ → ChecksumAlgorithm → Bool → TrailerTerms
+trailed_terms announced decoded algorithm signed = record {
+  name = header_of algorithm;
+  encoded = announced.length;
+  decoded = decoded;
+  seed = seed_if signed (seed_of announced.proved);
+}
 
 abbrev pub JudgesForm : Form → Announced → List ℕ → Bool → Verdict → Type 0
 JudgesForm (Whole hash digests) announced bytes ended verdict =
     verdict ≡ whole_verdict hash digests announced.length ended bytes
 JudgesForm (Chunks decoded) announced bytes ended verdict =
     chunked.Judges (terms_of announced decoded) bytes ended verdict
-JudgesForm (UnsignedChunks decoded algorithm) announced bytes ended verdict =
+JudgesForm (TrailedChunks decoded algorithm signed) announced bytes ended verdict =
     verdict
-    ≡ trailed_verdict algorithm announced.length (unsigned.verdict_of (trailed_terms announced decoded algorithm) bytes ended)
+    ≡ trailed_verdict algorithm announced.length (chunks_verdict (trailed_terms announced decoded algorithm signed) bytes ended)
 
 -- the verdict on a body that was announced so, by the bytes behind its head; ended says that no more come
 abbrev pub Judges : Announced → List ℕ → Bool → Verdict → Type 0

@@ -52,10 +52,12 @@ pub enum Form {
     Chunks {
         decoded: u64,
     },
-    /// In chunks without signatures that hold so many bytes of data together, with a checksum of this kind behind them.
-    UnsignedChunks {
+    /// In chunks that hold so many bytes of data together, with a checksum of this kind behind them: `signed` says whether
+    /// each has its own signature, and the checksum too.
+    TrailedChunks {
         decoded: u64,
         algorithm: ChecksumAlgorithm,
+        signed: bool,
     },
 }
 
@@ -237,10 +239,10 @@ fn trailer_announced(head: &Head) -> Result<ChecksumAlgorithm, Code>
     trailer_named(head).ok_or(Code::InvalidRequest)
 }
 
-// A body in chunks without signatures, past what is wrong with what the head says of it.
-#[tactic(auto, unfolding(crate::specs::Form::unsigned_chunks_form))]
-fn unsigned_chunks_form(config: &Config, head: &Head) -> Result<Form, Code>
-    ensures { result ≡ rules.unsigned_chunks_form config.now head.now }
+// A body in chunks with a trailer, past what is wrong with what the head says of it.
+#[tactic(auto, unfolding(crate::specs::Form::trailed_chunks_form))]
+fn trailed_chunks_form(config: &Config, head: &Head, signed: bool) -> Result<Form, Code>
+    ensures { result ≡ rules.trailed_chunks_form config.now head.now signed }
 {
     let decoded = decoded_length(head).ok_or(Code::InvalidRequest)?;
     if config.body_limit() < decoded {
@@ -250,7 +252,11 @@ fn unsigned_chunks_form(config: &Config, head: &Head) -> Result<Form, Code>
     if says_checksum(config.dialect(), head) {
         return Err(Code::InvalidRequest);
     }
-    Ok(Form::UnsignedChunks { decoded, algorithm })
+    Ok(Form::TrailedChunks {
+        decoded,
+        algorithm,
+        signed,
+    })
 }
 
 // A body that is sent as it is, past what is wrong with its Content-MD5 and its checksum: the word is no other than that
@@ -267,7 +273,7 @@ fn unsigned_form(config: &Config, head: &Head) -> Result<Form, Code>
 }
 
 // The same for a body whose hash the word is.
-#[tactic(auto, unfolding(crate::specs::Form::form_of, crate::specs::Form::whole_form), using(crate::proofs::WordLemmas::hash_in_hash, crate::proofs::WordLemmas::no_chunks_hash, crate::proofs::WordLemmas::no_unsigned_chunks_hash))]
+#[tactic(auto, unfolding(crate::specs::Form::form_of, crate::specs::Form::whole_form), using(crate::proofs::WordLemmas::hash_in_hash, crate::proofs::WordLemmas::no_chunks_hash, crate::proofs::WordLemmas::no_unsigned_chunks_hash, crate::proofs::WordLemmas::no_trailed_chunks_hash))]
 fn hashed_form(config: &Config, head: &Head, digits: [u8; 64]) -> Result<Form, Code>
     ensures { result ≡ rules.form_of config.now head.now digits }
 {
@@ -284,18 +290,19 @@ fn hashed_form(config: &Config, head: &Head, digits: [u8; 64]) -> Result<Form, C
 /// # Errors
 ///
 /// For chunks: `InvalidRequest` where `x-amz-decoded-content-length` was not sent once, or is not 1 to 18
-/// decimal digits, and `EntityTooLarge` where it is over the limit of the settings; where they are not signed,
+/// decimal digits, and `EntityTooLarge` where it is over the limit of the settings; where they have a trailer,
 /// then `InvalidRequest` where `x-amz-trailer` was not sent once, or names no checksum's header, or a header says
 /// a checksum too. Otherwise `InvalidDigest` where Content-MD5 was sent several times, or is not the base64 of 16 bytes. In S3's dialect then,
 /// of a PUT, `InvalidRequest` where headers say more than one checksum, or one that is no base64 of as many bytes as
-/// its kind has; for signed chunks `NotImplemented` where they say one.
+/// its kind has; for signed chunks without a trailer `NotImplemented` where they say one.
 #[tactic(auto, unfolding(crate::specs::Form::form_of))]
 pub fn form_of(config: &Config, head: &Head, word: &Word) -> Result<Form, Code>
     ensures { result ≡ rules.form_of config.now head.now (word_text word.now) }
 {
     match word {
         Word::Chunks => chunks_form(config, head),
-        Word::UnsignedChunks => unsigned_chunks_form(config, head),
+        Word::UnsignedChunks => trailed_chunks_form(config, head, false),
+        Word::TrailedChunks => trailed_chunks_form(config, head, true),
         Word::Unsigned => unsigned_form(config, head),
         Word::Hash(digits) => hashed_form(config, head, *digits),
     }

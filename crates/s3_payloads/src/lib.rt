@@ -3,6 +3,7 @@
 #![tactic(auto)]
 
 mod chunks;
+mod either_chunks;
 mod form;
 mod laws;
 mod reader;

@@ -8,6 +8,7 @@ ghost use Rattle.s3_payloads.specs.Outcome.{finished};
 ghost use Rattle.s3_payloads.specs.Reader.{ModeStands};
 
 use crate::chunks::ChunksReader;
+use crate::either_chunks::EitherChunks;
 use crate::form::{Form, form_of};
 use crate::trailed::TrailedReader;
 use crate::whole::WholeReader;
@@ -25,7 +26,7 @@ pub(crate) enum Mode {
     Whole(WholeReader),
     // In signed chunks.
     Chunks(ChunksReader),
-    // In chunks without signatures.
+    // In chunks with a trailer.
     Trailed(TrailedReader),
 }
 
@@ -40,14 +41,20 @@ fn mode_of(alloc: Global, form: Form, length: u64, verified: &Verified) -> Mode
         Form::Chunks { decoded } => {
             Mode::Chunks(ChunksReader::new(alloc, verified, length, decoded))
         }
-        Form::UnsignedChunks { decoded, algorithm } => {
-            Mode::Trailed(TrailedReader::new(alloc, algorithm, length, decoded))
+        Form::TrailedChunks {
+            decoded,
+            algorithm,
+            signed,
+        } => {
+            let chunks = EitherChunks::new(algorithm, signed, verified, length, decoded);
+            Mode::Trailed(TrailedReader::new(alloc, chunks, algorithm, decoded))
         }
     }
 }
 
-/// Reads the body of a verified message as its bytes arrive, whichever of the four payload words its head has: a hash,
-/// `UNSIGNED-PAYLOAD`, `STREAMING-AWS4-HMAC-SHA256-PAYLOAD` or `STREAMING-UNSIGNED-PAYLOAD-TRAILER`.
+/// Reads the body of a verified message as its bytes arrive, whichever of the five payload words its head has: a hash,
+/// `UNSIGNED-PAYLOAD`, `STREAMING-AWS4-HMAC-SHA256-PAYLOAD`, the same with `-TRAILER`, or
+/// `STREAMING-UNSIGNED-PAYLOAD-TRAILER`.
 ///
 /// However the bytes are cut, a body is refused at the same byte and with the same code. Each byte of data is copied once;
 /// MD5 runs over it, SHA-256 where the word asks for it, and a checksum where the head says one or announces its trailer.
@@ -114,7 +121,8 @@ impl PayloadReader {
     /// `XAmzContentSHA256Mismatch` and then `BadDigest` at the last byte of a body that is sent as it is, where it
     /// has none in the first piece; `InvalidRequest`, `SignatureDoesNotMatch` and `IncompleteBody` for signed
     /// chunks, as `s3_aws_chunked::ChunkReader` says; `InvalidRequest` and `IncompleteBody` for chunks without
-    /// signatures, as `s3_unsigned_chunks::UnsignedChunkReader` says, and at the last byte of those that are whole
+    /// signatures, as `s3_unsigned_chunks::UnsignedChunkReader` says; all three for signed chunks with a trailer, as
+    /// `s3_aws_chunked::TrailedChunkReader` says; and with a trailer at the last byte of those that are whole
     /// `InvalidRequest` where the trailer's value is no checksum of the kind that `x-amz-trailer` names, and `BadDigest`
     /// where the data has another; and `InternalError` where there is no memory for the data. From then on the reader
     /// refuses always, with the same code.

@@ -1,47 +1,41 @@
-//! The reader of a body in chunks without signatures, with a checksum behind them, which keeps its data.
+//! The reader of a body in chunks with a checksum behind them, which keeps its data.
 
 ghost use Rattle.std.specs.Prelude.{◌≡◌, ℕ, ◌+◌, ◌≤◌, true, false, List, [], ◌++◌, length, Err, IfErr, IfOk};
 ghost use Rattle.s3_aws_chunked.specs.Reader.{said_at_end};
 ghost use Rattle.s3_aws_chunked.specs.Verdict.{accepts};
-ghost use Rattle.s3_integrity.specs.Algorithm.{header_of};
-ghost use Rattle.s3_unsigned_chunks.specs.Reading.{Terms};
-ghost use Rattle.s3_unsigned_chunks.specs.Reader.{Failed, Stands, taken_of, verdict_by};
+ghost use Rattle.s3_payloads.specs.EitherChunks.{ChunksFailed, ChunksStand, chunks_by, chunks_lost, chunks_taken};
+ghost use Rattle.s3_payloads.specs.Verdict.{TrailerTerms as Terms};
 ghost use Rattle.s3_payloads.specs.Outcome.{EndedTo, FedTo, finished, part_of};
 ghost use Rattle.s3_payloads.specs.Trailed.{TrailedAreShort, TrailedAreWhole, TrailedCount, TrailedDone, TrailedEnd, TrailedEndIncomplete, TrailedFailed, TrailedJudge, TrailedRefusalsStand, TrailedStands, TrailedStay, TrailedStayWithin, answered_by, trailed_by, trailed_taken, wrong_in};
 
+use crate::either_chunks::{EitherChunks, either_chunks_are_judged};
 use crate::summed_data::SummedData;
 use s3_bodies::Payload;
 use s3_integrity::ChecksumAlgorithm;
 use s3_terms::Code;
-use s3_unsigned_chunks::{
-    UnsignedChunkReader, bodies_are_accepted, open_bodies_are_short, readers_judge, refusals_stand,
-    verdicts_are_final,
-};
 use std::alloc::Global;
 
-// Reads a body in chunks without signatures, keeps its data, and compares the checksum behind them once they are whole.
+// Reads a body in chunks with a trailer, keeps its data, and compares the checksum behind them once they are whole.
 #[derive(Drop)]
 pub(crate) struct TrailedReader {
-    chunks: UnsignedChunkReader,
+    chunks: EitherChunks,
     summed: SummedData,
     // What is wrong with the checksum of a body whose chunks are whole.
     wrong: Option<Code>,
 }
 
 impl TrailedReader {
-    // A reader of a body of `encoded` bytes with `decoded` bytes of data and a checksum of this kind, of which none has
-    // come.
+    // A reader of a body of these chunks, with `decoded` bytes of data and a checksum of this kind, of which none has come.
     pub(crate) fn new(
         alloc: Global,
+        chunks: EitherChunks,
         algorithm: ChecksumAlgorithm,
-        encoded: u64,
         decoded: u64,
     ) -> TrailedReader
-        ensures { TrailedStands result algorithm
-            (record { name = header_of algorithm; encoded = encoded; decoded = decoded }) [] false }
+        ensures { (terms : Terms) → ChunksStand chunks terms [] false [] → TrailedStands result algorithm terms [] false }
     {
         let mut reader = TrailedReader {
-            chunks: UnsignedChunkReader::new(algorithm, encoded, decoded),
+            chunks,
             summed: SummedData::new(alloc, algorithm, decoded),
             wrong: None,
         };
@@ -51,7 +45,7 @@ impl TrailedReader {
 
     // What is wrong with the checksum, where the chunks are whole.
     fn fault(&self) -> Option<Code>
-        ensures { result ≡ wrong_in self.now.summed.algorithm (verdict_by self.now.chunks self.now.summed.bytes) }
+        ensures { result ≡ wrong_in self.now.summed.algorithm (chunks_by self.now.chunks self.now.summed.bytes) }
     {
         if !self.chunks.is_whole() {
             return None;
@@ -62,20 +56,20 @@ impl TrailedReader {
     // Takes as much of the piece as is the body's, and keeps the data in it, without a look at the checksum.
     fn take(&mut self, piece: &[u8]) -> Result<usize, Code>
         ensures stands { (terms : Terms) (bytes : List ℕ)
-            → Stands self.old.chunks terms bytes false self.old.summed.bytes
+            → ChunksStand self.old.chunks terms bytes false self.old.summed.bytes
             → FedTo piece.now (part_of terms.encoded bytes piece.now)
-            (Stands self.new.chunks terms (bytes ++ piece.now) false self.new.summed.bytes)
-            (Failed self.new.chunks) result }
+            (ChunksStand self.new.chunks terms (bytes ++ piece.now) false self.new.summed.bytes)
+            (ChunksFailed self.new.chunks) result }
         ensures kind { self.new.summed.algorithm ≡ self.old.summed.algorithm }
         ensures wrong { self.new.wrong ≡ self.old.wrong }
-        ensures count { IfOk result (λ n. taken_of self.new.chunks ≡ taken_of self.old.chunks + n) }
-        ensures counts { (taken_of self.old.chunks ≤ taken_of self.new.chunks)
-            × (taken_of self.new.chunks ≤ taken_of self.old.chunks + length piece.now) }
-        ensures err { IfErr result (Failed self.new.chunks) }
-        ensures refuses { (code : Code) → Failed self.old.chunks code
-            → (result ≡ Err code) × (taken_of self.new.chunks ≡ taken_of self.old.chunks) }
+        ensures count { IfOk result (λ n. chunks_taken self.new.chunks ≡ chunks_taken self.old.chunks + n) }
+        ensures counts { (chunks_taken self.old.chunks ≤ chunks_taken self.new.chunks)
+            × (chunks_taken self.new.chunks ≤ chunks_taken self.old.chunks + length piece.now) }
+        ensures err { IfErr result (ChunksFailed self.new.chunks) }
+        ensures refuses { (code : Code) → ChunksFailed self.old.chunks code
+            → (result ≡ Err code) × (chunks_taken self.new.chunks ≡ chunks_taken self.old.chunks) }
     {
-        readers_judge();
+        either_chunks_are_judged();
         self.chunks.feed(piece, &mut self.summed)
     }
 
@@ -83,7 +77,7 @@ impl TrailedReader {
     fn judge(&mut self, count: usize) -> Result<usize, Code>
         ensures chunks { self.new.chunks ≡ self.old.chunks }
         ensures summed { self.new.summed ≡ self.old.summed }
-        ensures wrong { self.new.wrong ≡ wrong_in self.old.summed.algorithm (verdict_by self.old.chunks self.old.summed.bytes) }
+        ensures wrong { self.new.wrong ≡ wrong_in self.old.summed.algorithm (chunks_by self.old.chunks self.old.summed.bytes) }
         ensures answer { result ≡ answered_by self.new.wrong count }
     {
         self.wrong = self.fault();
@@ -122,12 +116,13 @@ impl TrailedReader {
             → EndedTo (TrailedStands self.new algorithm terms bytes true)
             (TrailedFailed self.new) (TrailedDone self.new) result }
         ensures err { IfErr result (TrailedFailed self.new) }
-        ensures says { self.old.chunks.lost ≡ false → result ≡ said_at_end (trailed_by self.old) }
+        ensures says { chunks_lost self.old.chunks ≡ false → result ≡ said_at_end (trailed_by self.old) }
         ensures taken { trailed_taken self.new ≡ trailed_taken self.old }
         ensures summed { self.new.summed ≡ self.old.summed }
         ensures refuses { (code : Code) → TrailedFailed self.old code
             → (result ≡ Err code) × (trailed_taken self.new ≡ trailed_taken self.old) }
     {
+        either_chunks_are_judged();
         if let Some(code) = self.wrong {
             return Err(code);
         }
@@ -154,7 +149,7 @@ impl TrailedReader {
     // The payload, as no more bytes come.
     #[tactic(auto, using(crate::proofs::TrailedLemmas::finish_refused))]
     pub(crate) fn finish(mut self) -> Result<Payload, Code>
-        ensures says { self.chunks.lost ≡ false → result ≡ finished (trailed_by self) }
+        ensures says { chunks_lost self.chunks ≡ false → result ≡ finished (trailed_by self) }
         ensures refuses { (code : Code) → TrailedFailed self code → result ≡ Err code }
     {
         match self.end() {
@@ -176,9 +171,5 @@ pub(crate) fn trailed_bodies_are_judged()
     ensures stand { TrailedRefusalsStand }
     ensures whole { TrailedAreWhole }
 {
-    readers_judge();
-    verdicts_are_final();
-    open_bodies_are_short();
-    refusals_stand();
-    bodies_are_accepted();
+    either_chunks_are_judged();
 }

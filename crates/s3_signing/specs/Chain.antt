@@ -39,6 +39,23 @@ next_signature link hash = encode_lower (hmac link.key (chunk_signing_text link 
 abbrev pub chunk_signature : Link → List ℕ → List ℕ
 chunk_signature link bytes = next_signature link (sha256 bytes)
 
+-- the string to sign of the trailer behind the chunks (Amazon S3 API Reference, "Signature calculations for trailing headers
+-- included in the payload"): the scheme, the stamp, the scope, the signature before, and the hash of the trailer's lines,
+-- joined by line feeds
+unfoldable pub trailer_signing_text : Link → List ℕ → List ℕ
+trailer_signing_text link hash =
+    join_with_byte 10 (
+    codes "AWS4-HMAC-SHA256-TRAILER"
+    ∷ link.stamp
+    ∷ scope_text (stamp_date link.stamp) link.region
+    ∷ link.previous
+    ∷ encode_lower hash
+    ∷ [])
+
+-- the signature of the trailer, whose lines have this hash
+unfoldable pub trailer_signature : Link → List ℕ → List ℕ
+trailer_signature link hash = encode_lower (hmac link.key (trailer_signing_text link hash))
+
 -- what the signature after this one is made with
 abbrev pub linked : Link → List ℕ → Link
 linked link signature = record link { previous = signature }

@@ -19,7 +19,7 @@ use Rattle.s3_signing.specs.Cover.{covers_enough}
 use Rattle.s3_signing.specs.Key.{signing_key}
 use Rattle.s3_signing.specs.Presigned.{Presigned, is_presigned, presigned_at}
 use Rattle.s3_signing.specs.Signature.{signature_of}
-use Rattle.s3_signing.specs.Word.{signed_chunks, unsigned_chunks, unsigned_payload}
+use Rattle.s3_signing.specs.Word.{signed_chunks, trailed_chunks, unsigned_chunks, unsigned_payload}
 
 -- the parts of the one Authorization line, if it has the form
 abbrev pub sent_authorization : HeadParts → Option authorization.Parts
@@ -59,10 +59,14 @@ abbrev pub is_word : List ℕ → Bool
 is_word word =
     is_hex_digest word || bytes_eq word unsigned_payload || bytes_eq word signed_chunks
 
--- and a fourth in S3's dialect: chunks that are not signed
+-- and two of S3's dialect: chunks with a checksum behind them, which are not signed, or are
+abbrev pub is_word_of_s3 : List ℕ → Bool
+is_word_of_s3 word = bytes_eq word unsigned_chunks || bytes_eq word trailed_chunks
+
+-- those of a dialect
 abbrev pub is_word_in : Dialect → List ℕ → Bool
 is_word_in Json word = is_word word
-is_word_in S3 word = is_word word || bytes_eq word unsigned_chunks
+is_word_in S3 word = is_word word || is_word_of_s3 word
 
 -- the parts of the one Authorization line
 unfoldable pub authorization_at : HeadParts → Result authorization.Parts Code

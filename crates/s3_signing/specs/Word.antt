@@ -2,7 +2,7 @@
 -- "Authenticating requests: signature calculations").
 use Rattle.std.specs.Prelude.{ℕ, List, codes}
 use Rattle.s3_signing.specs.declared.word.Word.{Word}
-use Rattle.s3_signing.specs.declared.word.Word.TheVariants.{Hash, Unsigned, Chunks, UnsignedChunks}
+use Rattle.s3_signing.specs.declared.word.Word.TheVariants.{Hash, Unsigned, Chunks, UnsignedChunks, TrailedChunks}
 
 -- the word of a body that is not signed
 abbrev pub unsigned_payload : List ℕ
@@ -16,9 +16,14 @@ signed_chunks = codes "STREAMING-AWS4-HMAC-SHA256-PAYLOAD"
 abbrev pub unsigned_chunks : List ℕ
 unsigned_chunks = codes "STREAMING-UNSIGNED-PAYLOAD-TRAILER"
 
+-- the word of a body that is chunks, each with its own signature, with a checksum and its signature behind them
+abbrev pub trailed_chunks : List ℕ
+trailed_chunks = codes "STREAMING-AWS4-HMAC-SHA256-PAYLOAD-TRAILER"
+
 -- the text of a word: the digits of the body's hash, or one of those that are no hash
 abbrev pub word_text : Word → List ℕ
 word_text (Hash digits) = digits
 word_text Unsigned = unsigned_payload
 word_text Chunks = signed_chunks
 word_text UnsignedChunks = unsigned_chunks
+word_text TrailedChunks = trailed_chunks

@@ -5,7 +5,7 @@ ghost use Rattle.std.specs.Str.{bytes_eq};
 ghost use Rattle.hex.specs.Hex.{encode_lower};
 ghost use Rattle.s3_hmac.specs.Hmac.{hmac};
 ghost use Rattle.s3_text.specs.Digest.{is_hex_digest};
-ghost use Rattle.s3_signing.specs.Chain.{chunk_signing_text, linked, next_signature, seed_of, seed_with};
+ghost use Rattle.s3_signing.specs.Chain.{chunk_signing_text, linked, next_signature, seed_of, seed_with, trailer_signature};
 
 use crate::compare::same_digits;
 use crate::key::{SECRET_MAX, signing_key};
@@ -98,6 +98,50 @@ impl ChunkChain {
         let expected = self.next(hash);
         same_digits(sent, &expected)
     }
+
+    /// Whether `sent` is the signature of the trailer behind the chunks, whose lines have this SHA-256. All digits are
+    /// compared, so that the time does not tell where they differ; that is not proved.
+    pub fn is_trailer(&self, hash: [u8; 32], sent: &[u8; 64]) -> bool
+        ensures { result ≡ bytes_eq sent.now (trailer_signature self.now hash) }
+    {
+        let expected = trailer_signature_of(
+            &self.key,
+            &self.stamp,
+            self.region.as_bytes(),
+            &self.previous,
+            &hash,
+        );
+        same_digits(sent, &expected)
+    }
+}
+
+// The signature that this key gives to a trailer whose lines have this hash. The string to sign is fed part by part.
+fn trailer_signature_of(
+    key: &[u8; 32],
+    stamp: &Stamp,
+    region: &[u8],
+    previous: &[u8; 64],
+    hash: &[u8; 32],
+) -> [u8; 64]
+    ensures { result ≡ trailer_signature (record {
+      stamp = stamp.now;
+      region = region.now;
+      key = key.now;
+      previous = previous.now;
+    }) hash.now }
+{
+    let mut mac = Mac::new(key);
+    mac.update(b"AWS4-HMAC-SHA256-TRAILER\n");
+    mac.update(stamp.text());
+    mac.update(b"\n");
+    mac.update(stamp.date());
+    mac.update(b"/");
+    mac.update(region);
+    mac.update(b"/s3/aws4_request\n");
+    mac.update(previous);
+    mac.update(b"\n");
+    mac.update(&hex_digest(hash));
+    hex_digest(&mac.finish())
 }
 
 // The signature that this key gives to a chunk whose data has this hash. The string to sign is fed part

@@ -1,7 +1,7 @@
 //! The word that stands for the body of a signed request.
 
 ghost use Rattle.std.specs.Prelude.{◌≡◌, true, false, MatchOption};
-ghost use Rattle.s3_signing.specs.Verdict.{is_word, is_word_in};
+ghost use Rattle.s3_signing.specs.Verdict.{is_word, is_word_in, is_word_of_s3};
 ghost use Rattle.s3_signing.specs.Word.{word_text};
 
 use s3_terms::Dialect;
@@ -19,6 +19,9 @@ pub enum Word {
     Chunks,
     /// `STREAMING-UNSIGNED-PAYLOAD-TRAILER`: the body is chunks without signatures, with a checksum behind them.
     UnsignedChunks,
+    /// `STREAMING-AWS4-HMAC-SHA256-PAYLOAD-TRAILER`: the body is chunks, and each has its own signature; behind them stands a
+    /// checksum, and its signature.
+    TrailedChunks,
 }
 
 const UNSIGNED: &[u8] = b"UNSIGNED-PAYLOAD";
@@ -27,21 +30,38 @@ const CHUNKS: &[u8] = b"STREAMING-AWS4-HMAC-SHA256-PAYLOAD";
 
 const UNSIGNED_CHUNKS: &[u8] = b"STREAMING-UNSIGNED-PAYLOAD-TRAILER";
 
+const TRAILED_CHUNKS: &[u8] = b"STREAMING-AWS4-HMAC-SHA256-PAYLOAD-TRAILER";
+
 impl Word {
     // The word that a text is in a dialect; `None` for a text of no such form.
-    #[tactic(auto, using(crate::proofs::WordFormLemmas::unsigned_chunks_in, crate::proofs::WordFormLemmas::other_in))]
+    #[tactic(auto, using(crate::proofs::WordFormLemmas::other_in, crate::proofs::WordFormLemmas::own_in, crate::proofs::WordFormLemmas::own_apart))]
     pub(crate) fn read_in(dialect: Dialect, text: &[u8]) -> Option<Word>
         ensures { MatchOption result
             (is_word_in dialect text.now ≡ false)
             (λ word. (is_word_in dialect text.now ≡ true) × (word_text word ≡ text.now)) }
     {
-        if text != UNSIGNED_CHUNKS {
+        let Some(word) = Word::read_of_s3(text) else {
             return Word::read(text);
-        }
+        };
         match dialect {
-            Dialect::S3 => Some(Word::UnsignedChunks),
+            Dialect::S3 => Some(word),
             Dialect::Json => None,
         }
+    }
+
+    // The word of S3's dialect alone that a text is; `None` for another text.
+    fn read_of_s3(text: &[u8]) -> Option<Word>
+        ensures { MatchOption result
+            (is_word_of_s3 text.now ≡ false)
+            (λ word. (is_word_of_s3 text.now ≡ true) × (word_text word ≡ text.now)) }
+    {
+        if text == UNSIGNED_CHUNKS {
+            return Some(Word::UnsignedChunks);
+        }
+        if text == TRAILED_CHUNKS {
+            return Some(Word::TrailedChunks);
+        }
+        None
     }
 
     // The word of any dialect that a text is; `None` for a text of no such form.
@@ -71,6 +91,7 @@ impl Word {
             Word::Unsigned => UNSIGNED,
             Word::Chunks => CHUNKS,
             Word::UnsignedChunks => UNSIGNED_CHUNKS,
+            Word::TrailedChunks => TRAILED_CHUNKS,
         }
     }
 }

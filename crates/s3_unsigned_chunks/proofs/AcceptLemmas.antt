@@ -8,7 +8,7 @@ use Rattle.s3_unsigned_chunks.specs.Verdict.{Verdict, Accepted, Open, accepts, v
 use Rattle.s3_unsigned_chunks.specs.Verdict as verdicts
 use Rattle.s3_unsigned_chunks.specs.declared.place.Fault.TheVariants.{Incomplete}
 use Rattle.s3_unsigned_chunks.specs.declared.place.Place.{Place}
-use Rattle.s3_unsigned_chunks.specs.declared.place.Place.TheVariants.{Size, SizeEnd, Data, DataEnd, Name, Value, ValueEnd, Last, LastEnd, Over, Refused}
+use Rattle.s3_unsigned_chunks.specs.declared.place.Place.TheVariants.{Size, SizeEnd, Data, DataEnd, Name, Value, Gap, ValueEnd, Last, LastEnd, Over, Refused}
 use Rattle.s3_unsigned_chunks.proofs.RunLemmas.{Reads, after_data, after_other, run_closed}
 use Rattle.s3_unsigned_chunks.proofs.KeptLemmas.{is_over, reads_below, run_bounds, taken_after, taken_settled}
 use Rattle.s3_unsigned_chunks.proofs.CourseLemmas.{At, Course, course_settled, data_grows, from_place}
@@ -20,6 +20,7 @@ course_data terms text (SizeEnd size) taken left value held byte at inside = abs
 course_data terms text DataEnd taken left value held byte at inside = absurd (false≢true inside)
 course_data terms text (Name matched) taken left value held byte at inside = absurd (false≢true inside)
 course_data terms text Value taken left value held byte at inside = absurd (false≢true inside)
+course_data terms text Gap taken left value held byte at inside = absurd (false≢true inside)
 course_data terms text ValueEnd taken left value held byte at inside = absurd (false≢true inside)
 course_data terms text Last taken left value held byte at inside = absurd (false≢true inside)
 course_data terms text LastEnd taken left value held byte at inside = absurd (false≢true inside)
@@ -83,16 +84,19 @@ course_bytes terms bytes = course_run terms [] (started terms) bytes (course_sta
 
 pub over_body : (terms : Terms) (text : List ℕ) (taken left : ℕ) (value held : List ℕ) → At terms text taken left value held Over → IsBody terms text held value
 over_body terms text taken left value held at =
-    let e = at.0 in
+    let close = at.0 in
+    let e = close.at in
     let t = e.at in
     record {
       chunks = t.chunks;
       last = t.last;
       name = e.name;
+      gap = close.gap;
       each = t.front.each;
       ends = t.ends;
       named = e.named;
       valued = e.valued;
+      parted = close.parted;
       written = t.front.written;
       joined = t.front.given ∙ append-nil _;
       decoded = omega (arith, t.sum, at.1);
@@ -118,6 +122,7 @@ accepted_at (Data left) taken value held other worth is = absurd (false≢true (
 accepted_at DataEnd taken value held other worth is = absurd (false≢true (ap accepts is))
 accepted_at (Name matched) taken value held other worth is = absurd (false≢true (ap accepts is))
 accepted_at Value taken value held other worth is = absurd (false≢true (ap accepts is))
+accepted_at Gap taken value held other worth is = absurd (false≢true (ap accepts is))
 accepted_at ValueEnd taken value held other worth is = absurd (false≢true (ap accepts is))
 accepted_at Last taken value held other worth is = absurd (false≢true (ap accepts is))
 accepted_at LastEnd taken value held other worth is = absurd (false≢true (ap accepts is))

@@ -1,5 +1,5 @@
 -- How a reader stands inside a body, and that what has come is then whole chunks and a part of what follows them.
-use Rattle.std.proofs.Common.{◌≡◌, ℕ, ◌+◌, ◌-◌, ◌*◌, ◌<◌, ◌≤◌, Bool, true, false, not, ◌&&◌, ◌==◌, nat_le, nat_lt, List, [], ◌∷◌, ◌++◌, length, take, map, refl, sym, ap, ◌∙◌, arith, append_assoc, eqb, eqb-true, le-leb, ltb-true, ltb-false, Some, None, if◌then◌else◌, get_or}
+use Rattle.std.proofs.Common.{◌≡◌, ℕ, ◌+◌, ◌-◌, ◌*◌, ◌<◌, ◌≤◌, inl, inr, Bool, true, false, not, ◌&&◌, ◌==◌, nat_le, nat_lt, List, [], ◌∷◌, ◌++◌, length, take, map, refl, sym, ap, ◌∙◌, subst, arith, append_assoc, eqb, eqb-true, le-leb, ltb-true, ltb-false, Some, None, if◌then◌else◌, get_or}
 use Rattle.std.proofs.lemmas.Bool.{and_from, and_parts}
 use Rattle.std.proofs.lemmas.Int.Digits.{digits_value_push}
 use Rattle.std.proofs.lemmas.List.{append-nil, length_push, map-append, take_all, take_more}
@@ -9,12 +9,12 @@ use Rattle.std.specs.List.{list_all}
 use Rattle.std.specs.Prelude.{slice_index}
 use Rattle.std.specs.Str.Parse.{digits_value}
 use Rattle.s3_text.specs.Characters.{colon, crlf}
-use Rattle.s3_unsigned_chunks.specs.Body.{AreChunks, AreSameName, Chunk, IsChunk, IsZero, chunk_text, chunks_text, data_of, is_size, is_value, size_of}
+use Rattle.s3_unsigned_chunks.specs.Body.{AreChunks, AreSameName, Chunk, IsChunk, IsGap, IsZero, chunk_text, chunks_text, data_of, is_size, is_value, size_of}
 use Rattle.s3_unsigned_chunks.specs.Place.{is_hex, more_digits, read, read_name, read_size, read_value, to_digits}
 use Rattle.s3_unsigned_chunks.specs.Reading.{Terms, Reading, is_data, is_settled, opened, place_behind, finished, turned, settled, refused}
 use Rattle.s3_unsigned_chunks.specs.declared.place.Fault.TheVariants.{Incomplete}
 use Rattle.s3_unsigned_chunks.specs.declared.place.Place.{Place}
-use Rattle.s3_unsigned_chunks.specs.declared.place.Place.TheVariants.{Size, SizeEnd, Data, DataEnd, Name, Value, ValueEnd, Last, LastEnd, Over, Refused}
+use Rattle.s3_unsigned_chunks.specs.declared.place.Place.TheVariants.{Size, SizeEnd, Data, DataEnd, Name, Value, Gap, ValueEnd, Last, LastEnd, Over, Refused}
 use Rattle.s3_unsigned_chunks.specs.declared.place.Step.{Step}
 use Rattle.s3_unsigned_chunks.specs.declared.place.Step.TheVariants.{Misspelled, Moves, Opens, Spells, Ends}
 
@@ -131,6 +131,12 @@ pub record AtEnd (terms : Terms) (text behind : List ℕ) (taken left : ℕ) (va
   pub named : AreSameName name terms.name
   pub valued : is_value value ≡ true
 
+-- behind its value, what may stand there, and this
+pub record AtClose (terms : Terms) (text behind : List ℕ) (taken left : ℕ) (value held : List ℕ) : Type 0 where
+  pub gap : List ℕ
+  pub parted : IsGap gap
+  pub at : AtEnd terms text (gap ++ behind) taken left value held
+
 -- where a reader that stands at this place is in a body
 abbrev pub At : Terms → List ℕ → ℕ → ℕ → List ℕ → List ℕ → Place → Type 0
 At terms text taken left value held (Size digits) = AtSize terms text digits taken left value held
@@ -139,10 +145,11 @@ At terms text taken left value held (Data more) = AtData terms text more [] take
 At terms text taken left value held DataEnd = AtData terms text 0 (13 ∷ []) taken left value held
 At terms text taken left value held (Name matched) = AtName terms text matched taken left value held
 At terms text taken left value held Value = AtValue terms text taken left value held
-At terms text taken left value held ValueEnd = AtEnd terms text (13 ∷ []) taken left value held
-At terms text taken left value held Last = AtEnd terms text crlf taken left value held
-At terms text taken left value held LastEnd = AtEnd terms text (crlf ++ 13 ∷ []) taken left value held
-At terms text taken left value held Over = AtEnd terms text (crlf ++ crlf) taken left value held × (left ≡ 0) × (taken ≡ terms.encoded)
+At terms text taken left value held Gap = AtEnd terms text (10 ∷ []) taken left value held
+At terms text taken left value held ValueEnd = AtClose terms text (13 ∷ []) taken left value held
+At terms text taken left value held Last = AtClose terms text crlf taken left value held
+At terms text taken left value held LastEnd = AtClose terms text (crlf ++ 13 ∷ []) taken left value held
+At terms text taken left value held Over = AtClose terms text (crlf ++ crlf) taken left value held × (left ≡ 0) × (taken ≡ terms.encoded)
 At terms text taken left value held (Refused fault) = Unit {0}
 
 abbrev pub Course : Terms → List ℕ → Reading → Type 0
@@ -404,16 +411,20 @@ value_more terms text taken left value held byte at is room =
       most = rw (length_push value byte) (omega (arith, room));
     }
 
-value_ends : (terms : Terms) (text : List ℕ) (taken left : ℕ) (value held : List ℕ) (byte : ℕ) → AtValue terms text taken left value held → byte ≡ 13 → 0 < length value → AtEnd terms (text ++ byte ∷ []) (13 ∷ []) (taken + 1) left value held
-value_ends terms text taken left value held byte at is some =
+value_ends : (terms : Terms) (text : List ℕ) (taken left : ℕ) (value held : List ℕ) (byte wanted : ℕ) → AtValue terms text taken left value held → byte ≡ wanted → 0 < length value → AtEnd terms (text ++ byte ∷ []) (wanted ∷ []) (taken + 1) left value held
+value_ends terms text taken left value held byte wanted at is some =
     record {
       name = at.name;
       at =
-          trailer_push terms text (at.name ++ colon ∷ value) taken left held byte (at.name ++ colon ∷ (value ++ 13 ∷ [])) at.at
+          trailer_push terms text (at.name ++ colon ∷ value) taken left held byte (at.name ++ colon ∷ (value ++ wanted ∷ [])) at.at
           (append_assoc at.name (colon ∷ value) (byte ∷ []) ∙ ap (λ b. at.name ++ colon ∷ (value ++ b ∷ [])) is);
       named = at.named;
       valued = value_form value some at.most at.spelled;
     }
+
+-- with nothing in between
+close_of : {terms : Terms} {text behind : List ℕ} {taken left : ℕ} {value held : List ℕ} → AtEnd terms text behind taken left value held → AtClose terms text behind taken left value held
+close_of at = record { gap = []; parted = inl refl; at = at }
 
 from_value : (terms : Terms) (text : List ℕ) (taken left : ℕ) (value held : List ℕ) (byte : ℕ) → AtValue terms text taken left value held → Goes terms text Value taken left value held byte (read_value (length value) byte)
 unfolding turned
@@ -422,13 +433,18 @@ from_value terms text taken left value held byte at =
     step_if P (byte == 13 && nat_lt 0 (length value)) (Moves ValueEnd) _
     (λ yes'.
     let both = and_parts (byte == 13) (nat_lt 0 (length value)) yes' in
-    value_ends terms text taken left value held byte at (eqb-true byte 13 both.0) (ltb-true 0 (length value) both.1))
+    close_of (value_ends terms text taken left value held byte 13 at (eqb-true byte 13 both.0) (ltb-true 0 (length value) both.1)))
+    (λ no'.
+    step_if P (byte == 10 && nat_lt 0 (length value)) (Moves Gap) _
+    (λ yes'.
+    let both = and_parts (byte == 10) (nat_lt 0 (length value)) yes' in
+    value_ends terms text taken left value held byte 10 at (eqb-true byte 10 both.0) (ltb-true 0 (length value) both.1))
     (λ no'.
     step_if P (is_ascii_graphic byte && nat_lt (length value) 64) Spells Misspelled
     (λ yes'.
     let both = and_parts (is_ascii_graphic byte) (nat_lt (length value) 64) yes' in
     value_more terms text taken left value held byte at both.0 (ltb-true (length value) 64 both.1))
-    (λ no'. tt))
+    (λ no'. tt)))
 
 end_push : (terms : Terms) (text behind : List ℕ) (taken left : ℕ) (value held : List ℕ) (byte wanted : ℕ) → AtEnd terms text behind taken left value held → byte ≡ wanted → AtEnd terms (text ++ byte ∷ []) (behind ++ wanted ∷ []) (taken + 1) left value held
 end_push terms text behind taken left value held byte wanted at is =
@@ -443,7 +459,17 @@ end_push terms text behind taken left value held byte wanted at is =
       valued = at.valued;
     }
 
-from_last_end : (terms : Terms) (text : List ℕ) (taken left : ℕ) (value held : List ℕ) (byte : ℕ) → AtEnd terms text (crlf ++ 13 ∷ []) taken left value held → taken + 1 ≤ terms.encoded → Goes terms text LastEnd taken left value held byte (if byte == 10 then Ends else Misspelled)
+close_push : (terms : Terms) (text behind : List ℕ) (taken left : ℕ) (value held : List ℕ) (byte wanted : ℕ) → AtClose terms text behind taken left value held → byte ≡ wanted → AtClose terms (text ++ byte ∷ []) (behind ++ wanted ∷ []) (taken + 1) left value held
+close_push terms text behind taken left value held byte wanted close is =
+    record {
+      gap = close.gap;
+      parted = close.parted;
+      at =
+          subst (λ (t : List ℕ). AtEnd terms (text ++ byte ∷ []) t (taken + 1) left value held) (append_assoc close.gap behind (wanted ∷ []))
+          (end_push terms text (close.gap ++ behind) taken left value held byte wanted close.at is);
+    }
+
+from_last_end : (terms : Terms) (text : List ℕ) (taken left : ℕ) (value held : List ℕ) (byte : ℕ) → AtClose terms text (crlf ++ 13 ∷ []) taken left value held → taken + 1 ≤ terms.encoded → Goes terms text LastEnd taken left value held byte (if byte == 10 then Ends else Misspelled)
 unfolding turned finished
 from_last_end terms text taken left value held byte at within =
     step_if (Goes terms text LastEnd taken left value held byte) (byte == 10) Ends Misspelled
@@ -456,7 +482,7 @@ from_last_end terms text taken left value held byte at within =
     (λ whole.
     let none = ltb-false 0 left all in
     let past = ltb-false (taken + 1) terms.encoded whole in (
-      end_push terms text (crlf ++ 13 ∷ []) taken left value held byte 10 at (eqb-true byte 10 is),
+      close_push terms text (crlf ++ 13 ∷ []) taken left value held byte 10 at (eqb-true byte 10 is),
       omega (arith, none),
       omega (arith, past, within),
     ))))
@@ -478,13 +504,17 @@ from_place terms text DataEnd taken left value held byte at other within =
     (λ no'. tt)
 from_place terms text (Name matched) taken left value held byte at other within = from_name terms text matched taken left value held byte at
 from_place terms text Value taken left value held byte at other within = from_value terms text taken left value held byte at
+from_place terms text Gap taken left value held byte at other within =
+    step_if (Goes terms text Gap taken left value held byte) (byte == 13) (Moves ValueEnd) Misspelled
+    (λ is. record { gap = 10 ∷ []; parted = inr refl; at = end_push terms text (10 ∷ []) taken left value held byte 13 at (eqb-true byte 13 is) })
+    (λ no'. tt)
 from_place terms text ValueEnd taken left value held byte at other within =
     step_if (Goes terms text ValueEnd taken left value held byte) (byte == 10) (Moves Last) Misspelled
-    (λ is. end_push terms text (13 ∷ []) taken left value held byte 10 at (eqb-true byte 10 is))
+    (λ is. close_push terms text (13 ∷ []) taken left value held byte 10 at (eqb-true byte 10 is))
     (λ no'. tt)
 from_place terms text Last taken left value held byte at other within =
     step_if (Goes terms text Last taken left value held byte) (byte == 13) (Moves LastEnd) Misspelled
-    (λ is. end_push terms text crlf taken left value held byte 13 at (eqb-true byte 13 is))
+    (λ is. close_push terms text crlf taken left value held byte 13 at (eqb-true byte 13 is))
     (λ no'. tt)
 from_place terms text LastEnd taken left value held byte at other within = from_last_end terms text taken left value held byte at within
 from_place terms text Over taken left value held byte at other within = tt

@@ -5,15 +5,15 @@ use Rattle.std.proofs.lemmas.List.{append-nil, length-replicate, map-append, nil
 use Rattle.std.specs.Char.{to_ascii_lowercase}
 use Rattle.std.specs.List.{list_all}
 use Rattle.s3_text.specs.Characters.{colon, crlf}
-use Rattle.s3_unsigned_chunks.specs.Body.{AreSameName, BeginsChunk, BeginsEnd, Chunk, HoldsSoFar, IsZero, is_size, is_value, size_of}
+use Rattle.s3_unsigned_chunks.specs.Body.{AreSameName, BeginsChunk, BeginsEnd, Chunk, HoldsSoFar, IsGap, IsZero, is_size, is_value, size_of}
 use Rattle.s3_unsigned_chunks.specs.Place.{is_hex}
 use Rattle.s3_unsigned_chunks.specs.Reading.{Terms, is_settled, run, started}
 use Rattle.s3_unsigned_chunks.specs.Verdict.{Open, Verdict, verdict_at, verdict_of}
 use Rattle.s3_unsigned_chunks.specs.Verdict as verdicts
 use Rattle.s3_unsigned_chunks.specs.declared.place.Place.{Place}
-use Rattle.s3_unsigned_chunks.specs.declared.place.Place.TheVariants.{Size, SizeEnd, Data, DataEnd, Name, Value, ValueEnd, Last, LastEnd, Over, Refused}
+use Rattle.s3_unsigned_chunks.specs.declared.place.Place.TheVariants.{Size, SizeEnd, Data, DataEnd, Name, Value, Gap, ValueEnd, Last, LastEnd, Over, Refused}
 use Rattle.s3_unsigned_chunks.proofs.AcceptLemmas.{course_bytes}
-use Rattle.s3_unsigned_chunks.proofs.CourseLemmas.{At, AtEnd, AtName, AtTrailer, AtValue, Front, size_form, value_form}
+use Rattle.s3_unsigned_chunks.proofs.CourseLemmas.{At, AtClose, AtEnd, AtName, AtTrailer, AtValue, Front, size_form, value_form}
 use Rattle.s3_unsigned_chunks.proofs.FinalLemmas.{nothing_taken, open_place, open_taken}
 
 -- what the definition says of a front and the data in it
@@ -47,10 +47,12 @@ last_begins terms size front rest zero' is =
       last = size;
       name = terms.name;
       value = letter;
+      gap = [];
       rest = rest ++ behind;
       ends = zero';
       named = refl;
       valued = refl;
+      parted = inl refl;
       begun = sym (append_assoc size crlf behind) ∙ ap (λ t. t ++ behind) is ∙ append_assoc front rest behind;
     }
 
@@ -104,8 +106,8 @@ data_begins size part rest more behind form number some which same =
     }
 
 -- the trailer
-trailer_holds : (terms : Terms) (text rest : List ℕ) (taken left : ℕ) (held name value more : List ℕ) → AtTrailer terms text rest taken left held → AreSameName name terms.name → is_value value ≡ true → name ++ colon ∷ (value ++ (crlf ++ crlf)) ≡ rest ++ more → HoldsSoFar terms text held
-trailer_holds terms text rest taken left held name value more at named valued is =
+trailer_holds : (terms : Terms) (text rest : List ℕ) (taken left : ℕ) (held name value gap more : List ℕ) → AtTrailer terms text rest taken left held → AreSameName name terms.name → is_value value ≡ true → IsGap gap → name ++ colon ∷ (value ++ (gap ++ (crlf ++ crlf))) ≡ rest ++ more → HoldsSoFar terms text held
+trailer_holds terms text rest taken left held name value gap more at named valued parted is =
     holds terms text at.chunks (at.last ++ (crlf ++ rest)) taken held [] at.front
     (inr (
       refl,
@@ -113,10 +115,12 @@ trailer_holds terms text rest taken left held name value more at named valued is
         last = at.last;
         name = name;
         value = value;
+        gap = gap;
         rest = more;
         ends = at.ends;
         named = named;
         valued = valued;
+        parted = parted;
         begun = ap (λ t. at.last ++ (crlf ++ t)) is ∙ sym (append_assoc at.last (crlf ++ rest) more);
       },
     ))
@@ -125,31 +129,38 @@ name_holds : (terms : Terms) (text : List ℕ) (matched taken left : ℕ) (value
 name_holds terms text matched taken left value held at =
     let more = drop matched terms.name in
     let behind = colon ∷ (letter ++ (crlf ++ crlf)) in
-    trailer_holds terms text at.rest taken left held (at.rest ++ more) letter (more ++ behind) at.at
+    trailer_holds terms text at.rest taken left held (at.rest ++ more) letter [] (more ++ behind) at.at
     (map-append to_ascii_lowercase at.rest more
     ∙ ap (λ t. t ++ map to_ascii_lowercase more) at.same
     ∙ sym (map-append to_ascii_lowercase (take matched terms.name) more)
     ∙ ap (map to_ascii_lowercase) (take-append-drop matched terms.name))
     refl
+    (inl refl)
     (append_assoc at.rest more behind)
 
 value_holds : (terms : Terms) (text : List ℕ) (taken left : ℕ) (value held : List ℕ) (count : ℕ) → length value ≡ count → AtValue terms text taken left value held → HoldsSoFar terms text held
 value_holds terms text taken left value held zero long at =
     let none : value ≡ [] = nil_from_length value long in
-    trailer_holds terms text (at.name ++ colon ∷ value) taken left held at.name letter (letter ++ (crlf ++ crlf)) at.at at.named refl
+    trailer_holds terms text (at.name ++ colon ∷ value) taken left held at.name letter [] (letter ++ (crlf ++ crlf)) at.at at.named refl (inl refl)
     (sym (append_assoc at.name (colon ∷ []) (letter ++ (crlf ++ crlf)))
     ∙ ap (λ v. (at.name ++ colon ∷ v) ++ (letter ++ (crlf ++ crlf))) (sym none))
 value_holds terms text taken left value held (suc count) long at =
-    trailer_holds terms text (at.name ++ colon ∷ value) taken left held at.name value (crlf ++ crlf) at.at at.named
+    trailer_holds terms text (at.name ++ colon ∷ value) taken left held at.name value [] (crlf ++ crlf) at.at at.named
     (value_form value (omega (arith, long)) at.most at.spelled)
+    (inl refl)
     (sym (append_assoc at.name (colon ∷ value) (crlf ++ crlf)))
 
-end_holds : (terms : Terms) (text behind more : List ℕ) (taken left : ℕ) (value held : List ℕ) → AtEnd terms text behind taken left value held → crlf ++ crlf ≡ behind ++ more → HoldsSoFar terms text held
-end_holds terms text behind more taken left value held at is =
-    trailer_holds terms text (at.name ++ colon ∷ (value ++ behind)) taken left held at.name value more at.at at.named at.valued
+end_holds : (terms : Terms) (text gap behind more : List ℕ) (taken left : ℕ) (value held : List ℕ) → AtEnd terms text behind taken left value held → IsGap gap → gap ++ (crlf ++ crlf) ≡ behind ++ more → HoldsSoFar terms text held
+end_holds terms text gap behind more taken left value held at parted is =
+    trailer_holds terms text (at.name ++ colon ∷ (value ++ behind)) taken left held at.name value gap more at.at at.named at.valued parted
     (ap (λ t. at.name ++ colon ∷ (value ++ t)) is
     ∙ ap (λ t. at.name ++ colon ∷ t) (sym (append_assoc value behind more))
     ∙ sym (append_assoc at.name (colon ∷ (value ++ behind)) more))
+
+close_holds : (terms : Terms) (text behind more : List ℕ) (taken left : ℕ) (value held : List ℕ) → AtClose terms text behind taken left value held → crlf ++ crlf ≡ behind ++ more → HoldsSoFar terms text held
+close_holds terms text behind more taken left value held close is =
+    end_holds terms text close.gap (close.gap ++ behind) more taken left value held close.at close.parted
+    (ap (λ t. close.gap ++ t) is ∙ sym (append_assoc close.gap behind more))
 
 place_holds : (terms : Terms) (text : List ℕ) (place : Place) (taken left : ℕ) (value held : List ℕ) → At terms text taken left value held place → is_settled place ≡ false → HoldsSoFar terms text held
 place_holds terms text (Size digits) taken left value held at open' =
@@ -166,9 +177,10 @@ place_holds terms text DataEnd taken left value held at open' =
     (inl (data_begins at.size at.part (10 ∷ []) 0 (13 ∷ []) at.form at.number at.some (inr refl) refl))
 place_holds terms text (Name matched) taken left value held at open' = name_holds terms text matched taken left value held at
 place_holds terms text Value taken left value held at open' = value_holds terms text taken left value held (length value) refl at
-place_holds terms text ValueEnd taken left value held at open' = end_holds terms text (13 ∷ []) (10 ∷ crlf) taken left value held at refl
-place_holds terms text Last taken left value held at open' = end_holds terms text crlf crlf taken left value held at refl
-place_holds terms text LastEnd taken left value held at open' = end_holds terms text (crlf ++ 13 ∷ []) (10 ∷ []) taken left value held at refl
+place_holds terms text Gap taken left value held at open' = end_holds terms text (10 ∷ []) (10 ∷ []) (crlf ++ crlf) taken left value held at (inr refl) refl
+place_holds terms text ValueEnd taken left value held at open' = close_holds terms text (13 ∷ []) (10 ∷ crlf) taken left value held at refl
+place_holds terms text Last taken left value held at open' = close_holds terms text crlf crlf taken left value held at refl
+place_holds terms text LastEnd taken left value held at open' = close_holds terms text (crlf ++ 13 ∷ []) (10 ∷ []) taken left value held at refl
 place_holds terms text Over taken left value held at open' = absurd (false≢true (sym open'))
 place_holds terms text (Refused fault) taken left value held at open' = absurd (false≢true (sym open'))
 
@@ -184,6 +196,7 @@ open_held (Data left) taken value held open' = refl
 open_held DataEnd taken value held open' = refl
 open_held (Name matched) taken value held open' = refl
 open_held Value taken value held open' = refl
+open_held Gap taken value held open' = refl
 open_held ValueEnd taken value held open' = refl
 open_held Last taken value held open' = refl
 open_held LastEnd taken value held open' = refl

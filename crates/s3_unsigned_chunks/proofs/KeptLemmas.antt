@@ -9,7 +9,7 @@ use Rattle.s3_unsigned_chunks.specs.Reading.{Terms, Reading, code_at, is_settled
 use Rattle.s3_unsigned_chunks.specs.declared.place.Fault.{Fault}
 use Rattle.s3_unsigned_chunks.specs.declared.place.Fault.TheVariants.{Incomplete}
 use Rattle.s3_unsigned_chunks.specs.declared.place.Place.{Place}
-use Rattle.s3_unsigned_chunks.specs.declared.place.Place.TheVariants.{Size, SizeEnd, Data, DataEnd, Name, Value, ValueEnd, Last, LastEnd, Over, Refused}
+use Rattle.s3_unsigned_chunks.specs.declared.place.Place.TheVariants.{Size, SizeEnd, Data, DataEnd, Name, Value, Gap, ValueEnd, Last, LastEnd, Over, Refused}
 use Rattle.s3_unsigned_chunks.specs.declared.place.Step.{Step}
 use Rattle.s3_unsigned_chunks.specs.declared.place.Step.TheVariants.{Misspelled, Moves, Opens, Spells, Ends}
 use Rattle.s3_unsigned_chunks.proofs.RunLemmas.{Closed, Reads, run_closed, after_closed, after_data, after_other}
@@ -23,6 +23,7 @@ is_over (Data left) = false
 is_over DataEnd = false
 is_over (Name matched) = false
 is_over Value = false
+is_over Gap = false
 is_over ValueEnd = false
 is_over Last = false
 is_over LastEnd = false
@@ -36,6 +37,7 @@ over_settled (Data left) is = absurd (false≢true is)
 over_settled DataEnd is = absurd (false≢true is)
 over_settled (Name matched) is = absurd (false≢true is)
 over_settled Value is = absurd (false≢true is)
+over_settled Gap is = absurd (false≢true is)
 over_settled ValueEnd is = absurd (false≢true is)
 over_settled Last is = absurd (false≢true is)
 over_settled LastEnd is = absurd (false≢true is)
@@ -53,6 +55,7 @@ over_from (Data left) is none = absurd (false≢true is)
 over_from DataEnd is none = absurd (false≢true is)
 over_from (Name matched) is none = absurd (false≢true is)
 over_from Value is none = absurd (false≢true is)
+over_from Gap is none = absurd (false≢true is)
 over_from ValueEnd is none = absurd (false≢true is)
 over_from Last is none = absurd (false≢true is)
 over_from LastEnd is none = absurd (false≢true is)
@@ -163,7 +166,9 @@ plain_read name count (Name matched) byte =
     (plain_if (eq_ignore_ascii_case byte (slice_index name matched)) _ _ refl tt)
     (plain_if (byte == 58) _ _ refl tt)
 plain_read name count Value byte =
-    plain_if (byte == 13 && nat_lt 0 count) _ _ refl (plain_if (is_ascii_graphic byte && nat_lt count 64) _ _ tt tt)
+    plain_if (byte == 13 && nat_lt 0 count) _ _ refl
+    (plain_if (byte == 10 && nat_lt 0 count) _ _ refl (plain_if (is_ascii_graphic byte && nat_lt count 64) _ _ tt tt))
+plain_read name count Gap byte = plain_if (byte == 13) _ _ refl tt
 plain_read name count ValueEnd byte = plain_if (byte == 10) _ _ refl tt
 plain_read name count Last byte = plain_if (byte == 13) _ _ refl tt
 plain_read name count LastEnd byte = plain_if (byte == 10) _ _ tt tt
@@ -239,6 +244,7 @@ data_over (Data left) count open' is = false≢true is
 data_over DataEnd count open' is = false≢true is
 data_over (Name matched) count open' is = false≢true is
 data_over Value count open' is = false≢true is
+data_over Gap count open' is = false≢true is
 data_over ValueEnd count open' is = false≢true is
 data_over Last count open' is = false≢true is
 data_over LastEnd count open' is = false≢true is

@@ -7,7 +7,7 @@ use Rattle.s3_terms.specs.declared.code.Code.{Code}
 use Rattle.s3_terms.specs.declared.code.Code.TheVariants.{InternalError}
 use Rattle.s3_unsigned_chunks.specs.Reading.{Terms, Reading, code_at, is_settled, is_closed, run, started}
 use Rattle.s3_unsigned_chunks.specs.declared.place.Place.{Place}
-use Rattle.s3_unsigned_chunks.specs.declared.place.Place.TheVariants.{Size, SizeEnd, Data, DataEnd, Name, Value, ValueEnd, Last, LastEnd, Over, Refused}
+use Rattle.s3_unsigned_chunks.specs.declared.place.Place.TheVariants.{Size, SizeEnd, Data, DataEnd, Name, Value, Gap, ValueEnd, Last, LastEnd, Over, Refused}
 use Rattle.s3_unsigned_chunks.proofs.RunLemmas.{Closed, run-append, run_closed}
 use Rattle.s3_unsigned_chunks.proofs.KeptLemmas.{closed_settled, kept_bytes, over_from, run_min, kept_started, settled_closed, taken_settled}
 
@@ -64,6 +64,7 @@ refused_settled (Data left) code is = absurd (none-some code is)
 refused_settled DataEnd code is = absurd (none-some code is)
 refused_settled (Name matched) code is = absurd (none-some code is)
 refused_settled Value code is = absurd (none-some code is)
+refused_settled Gap code is = absurd (none-some code is)
 refused_settled ValueEnd code is = absurd (none-some code is)
 refused_settled Last code is = absurd (none-some code is)
 refused_settled LastEnd code is = absurd (none-some code is)
@@ -97,6 +98,7 @@ unfailed_at (Data left) none = refl
 unfailed_at DataEnd none = refl
 unfailed_at (Name matched) none = refl
 unfailed_at Value none = refl
+unfailed_at Gap none = refl
 unfailed_at ValueEnd none = refl
 unfailed_at Last none = refl
 unfailed_at LastEnd none = refl

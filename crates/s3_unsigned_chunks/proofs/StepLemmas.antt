@@ -1,5 +1,5 @@
 -- One byte of a body, and runs of such bytes, before the end of Content-Length.
-use Rattle.std.proofs.Common.{◌≡◌, ℕ, suc, ◌+◌, ◌-◌, ◌*◌, ◌<◌, ◌≤◌, Bool, true, false, not, ◌&&◌, ◌==◌, nat_lt, List, [], ◌∷◌, ◌++◌, length, map, drop, refl, sym, ap, ◌∙◌, arith, append_assoc, eqb, eq-eqb, ne_eqb, lt-ltb, length-append, get_or, Some}
+use Rattle.std.proofs.Common.{◌≡◌, ℕ, suc, ◌+◌, ◌-◌, ◌*◌, ◌<◌, ◌≤◌, ⊎_elim, Bool, true, false, not, ◌&&◌, ◌==◌, nat_lt, List, [], ◌∷◌, ◌++◌, length, map, drop, refl, sym, ap, ◌∙◌, subst, arith, append_assoc, eqb, eq-eqb, ne_eqb, lt-ltb, length-append, get_or, Some}
 use Rattle.std.proofs.lemmas.Bool.{false≢true, and_parts}
 use Rattle.std.proofs.lemmas.List.{append-nil, length_push}
 use Rattle.std.proofs.Math.Seq.{get_or-append_seam}
@@ -7,10 +7,11 @@ use Rattle.std.specs.Char.{digit_value, eq_ignore_ascii_case, is_ascii_graphic, 
 use Rattle.std.specs.List.{list_all}
 use Rattle.std.specs.Prelude.{slice_index}
 use Rattle.std.specs.Str.Parse.{digits_value_after}
+use Rattle.s3_unsigned_chunks.specs.Body.{IsGap}
 use Rattle.s3_unsigned_chunks.specs.Place.{is_hex, more_digits, read, read_size, to_digits}
 use Rattle.s3_unsigned_chunks.specs.Reading.{Terms, Reading, after_byte, byte_read, data_read, finished, is_closed, is_data, is_settled, opened, place_behind, run, settled, turned}
 use Rattle.s3_unsigned_chunks.specs.declared.place.Place.{Place}
-use Rattle.s3_unsigned_chunks.specs.declared.place.Place.TheVariants.{Size, SizeEnd, Data, Name, Value, ValueEnd, LastEnd, Over}
+use Rattle.s3_unsigned_chunks.specs.declared.place.Place.TheVariants.{Size, SizeEnd, Data, Name, Value, Gap, ValueEnd, LastEnd, Over}
 use Rattle.s3_unsigned_chunks.specs.declared.place.Step.{Step}
 use Rattle.s3_unsigned_chunks.specs.declared.place.Step.TheVariants.{Moves, Opens, Spells, Ends}
 use Rattle.s3_unsigned_chunks.proofs.RunLemmas.{after_other, run_data}
@@ -155,8 +156,9 @@ spelled : (name : List ℕ) (worth byte : ℕ) → is_ascii_graphic byte ≡ tru
 unfolding read
 spelled name worth byte is room =
     let apart : (byte == 13) ≡ false = ne_eqb _ _ (λ same. false≢true (sym (ap is_ascii_graphic same) ∙ is)) in
+    let other : (byte == 10) ≡ false = ne_eqb _ _ (λ same. false≢true (sym (ap is_ascii_graphic same) ∙ is)) in
     let both : (is_ascii_graphic byte && nat_lt worth 64) ≡ true = ap (λ b. b && nat_lt worth 64) is ∙ lt-ltb worth 64 room in
-    rw (apart, both) refl
+    rw (apart, other, both) refl
 
 spells : (terms : Terms) (taken left : ℕ) (value held : List ℕ) (byte : ℕ) → is_ascii_graphic byte ≡ true → length value < 64 → taken + 1 < terms.encoded → after_byte terms (reading_at Value taken left value held) byte ≡ reading_at Value (taken + 1) left (value ++ byte ∷ []) held
 unfolding turned
@@ -178,6 +180,37 @@ run_value terms (byte ∷ text) taken left value held all most below =
     ∙ ap (λ (n : ℕ). reading_at Value n left ((value ++ byte ∷ []) ++ text) held) b
     ∙ ap (λ (v : List ℕ). reading_at Value (taken + suc (length text)) left v held) (append_assoc value (byte ∷ []) text)
 
-pub value_return : (name : List ℕ) (worth : ℕ) → 0 < worth → read name worth Value 13 ≡ Moves ValueEnd
+value_return : (name : List ℕ) (worth : ℕ) → 0 < worth → read name worth Value 13 ≡ Moves ValueEnd
 unfolding read
 value_return name worth some = rw (lt-ltb 0 worth some) refl
+
+value_feed : (name : List ℕ) (worth : ℕ) → 0 < worth → read name worth Value 10 ≡ Moves Gap
+unfolding read
+value_feed name worth some = rw (lt-ltb 0 worth some) refl
+
+-- behind the value: what may stand there, and the CR
+pub run_gap : (terms : Terms) (gap : List ℕ) (taken left : ℕ) (value held : List ℕ) → IsGap gap → 0 < length value → taken + length gap + 1 < terms.encoded → run terms (reading_at Value taken left value held) (gap ++ 13 ∷ []) ≡ reading_at ValueEnd (taken + length gap + 1) left value held
+unfolding read
+run_gap terms gap taken left value held parted some below =
+    ⊎_elim
+    (λ (none : gap ≡ []). subst P (sym none) (alone (below_as none)))
+    (λ (one : gap ≡ 10 ∷ []). subst P (sym one) (behind (below_as one)))
+    parted
+  where
+    P : List ℕ → Type 0
+    P gap = run terms (reading_at Value taken left value held) (gap ++ 13 ∷ []) ≡ reading_at ValueEnd (taken + length gap + 1) left value held
+
+    below_as : {other : List ℕ} → gap ≡ other → taken + length other + 1 < terms.encoded
+    below_as same = subst (λ (g : List ℕ). taken + length g + 1 < terms.encoded) same below
+
+    alone : taken + 0 + 1 < terms.encoded → P []
+    alone room =
+        let sum : taken + 1 ≡ taken + 0 + 1 = omega arith in
+        moves terms Value ValueEnd taken left value held 13 refl refl (omega (arith, room)) (value_return terms.name (length value) some)
+        ∙ ap (λ (n : ℕ). reading_at ValueEnd n left value held) sum
+
+    behind : taken + 1 + 1 < terms.encoded → P (10 ∷ [])
+    behind room =
+        ap (λ (r : Reading). run terms r (13 ∷ []))
+        (moves terms Value Gap taken left value held 10 refl refl (omega (arith, room)) (value_feed terms.name (length value) some))
+        ∙ moves terms Gap ValueEnd (taken + 1) left value held 13 refl refl room refl

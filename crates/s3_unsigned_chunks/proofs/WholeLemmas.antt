@@ -6,7 +6,7 @@ use Rattle.std.specs.Char.{is_ascii_graphic}
 use Rattle.std.specs.List.{list_all}
 use Rattle.s3_text.specs.Characters.{colon, crlf}
 use Rattle.s3_terms.specs.declared.code.Code.{Code}
-use Rattle.s3_unsigned_chunks.specs.Body.{AreChunks, AreSameName, Chunk, IsBody, IsChunk, IsZero, chunk_text, chunks_text, data_of, end_text, is_size, is_value, size_of}
+use Rattle.s3_unsigned_chunks.specs.Body.{AreChunks, AreSameName, Chunk, IsBody, IsChunk, IsGap, IsZero, chunk_text, chunks_text, data_of, end_text, is_size, is_value, size_of}
 use Rattle.s3_unsigned_chunks.specs.Finality.{IsDecided}
 use Rattle.s3_unsigned_chunks.specs.Place.{is_hex, read}
 use Rattle.s3_unsigned_chunks.specs.Reading.{Terms, Reading, place_behind, run, started}
@@ -15,7 +15,7 @@ use Rattle.s3_unsigned_chunks.specs.declared.place.Place.{Place}
 use Rattle.s3_unsigned_chunks.specs.declared.place.Place.TheVariants.{Size, SizeEnd, Data, DataEnd, Name, Value, ValueEnd, Last, LastEnd, Over}
 use Rattle.s3_unsigned_chunks.proofs.RunLemmas.{run-append}
 use Rattle.s3_unsigned_chunks.proofs.FinalLemmas.{refused_front, verdicts_stay}
-use Rattle.s3_unsigned_chunks.proofs.StepLemmas.{ends, moves, opens, read_colon, read_return, reading_at, run_chunk_data, run_digits, run_name, run_value, settled_going, value_return}
+use Rattle.s3_unsigned_chunks.proofs.StepLemmas.{ends, moves, opens, read_colon, read_return, reading_at, run_chunk_data, run_digits, run_gap, run_name, run_value, settled_going}
 
 -- what a size is made of
 size_parts : (size : List ℕ) → is_size size ≡ true → (1 ≤ length size) × (length size ≤ 8) × (list_all is_hex size ≡ true)
@@ -99,18 +99,20 @@ run_chunks terms (c ∷ cs) taken left held each fits below =
     ∙ ap (λ (h : List ℕ). reading_at (Size (0, 0)) (taken + length (chunk_text c ++ chunks_text cs)) (left - length (c.bytes ++ data_of cs)) [] h) (append_assoc held c.bytes (data_of cs))
 
 -- behind the line of the last size
-run_trailer : (terms : Terms) (name value : List ℕ) (taken : ℕ) (held : List ℕ) → AreSameName name terms.name → is_value value ≡ true → taken + (length name + length value + 5) ≡ terms.encoded → run terms (reading_at (Name 0) taken 0 [] held) (name ++ colon ∷ (value ++ (crlf ++ crlf))) ≡ reading_at Over terms.encoded 0 value held
+run_trailer : (terms : Terms) (name value gap : List ℕ) (taken : ℕ) (held : List ℕ) → AreSameName name terms.name → is_value value ≡ true → IsGap gap → taken + (length name + length value + length gap + 5) ≡ terms.encoded → run terms (reading_at (Name 0) taken 0 [] held) (name ++ colon ∷ (value ++ (gap ++ (crlf ++ crlf)))) ≡ reading_at Over terms.encoded 0 value held
 unfolding read
-run_trailer terms name value taken held named valued whole =
+run_trailer terms name value gap taken held named valued parted whole =
     let parts = value_parts value valued in
     let n = length name in
     let v = length value in
-    let rest = value ++ (crlf ++ crlf) in
+    let g = length gap in
+    let rest = value ++ (gap ++ (crlf ++ crlf)) in
     let letters = run_name terms name [] terms.name taken 0 [] held refl named (omega (arith, whole)) in
     let colon' = moves terms (Name (length terms.name)) Value (taken + n) 0 [] held 58 refl refl (omega (arith, whole)) (read_colon terms.name 0 (length terms.name) refl) in
     let worth = run_value terms value (taken + n + 1) 0 [] held parts.2 (omega (arith, parts.1)) (omega (arith, whole)) in
-    let at = taken + n + 1 + v in
-    let return' = moves terms Value ValueEnd at 0 value held 13 refl refl (omega (arith, whole)) (value_return terms.name v (omega (arith, parts.0))) in
+    let behind = taken + n + 1 + v in
+    let at = behind + g in
+    let return' = run_gap terms gap behind 0 value held parted (omega (arith, parts.0)) (omega (arith, whole)) in
     let feed = moves terms ValueEnd Last (at + 1) 0 value held 10 refl refl (omega (arith, whole)) refl in
     let again = moves terms Last LastEnd (at + 1 + 1) 0 value held 13 refl refl (omega (arith, whole)) refl in
     let last = ends terms (at + 1 + 1 + 1) value held (omega (arith, whole)) in
@@ -118,46 +120,49 @@ run_trailer terms name value taken held named valued whole =
     run-append terms (reading_at (Name 0) taken 0 [] held) name (colon ∷ rest)
     ∙ ap (λ (r : Reading). run terms r (colon ∷ rest)) letters
     ∙ ap (λ (r : Reading). run terms r rest) colon'
-    ∙ run-append terms (reading_at Value (taken + n + 1) 0 [] held) value (crlf ++ crlf)
-    ∙ ap (λ (r : Reading). run terms r (crlf ++ crlf)) worth
+    ∙ run-append terms (reading_at Value (taken + n + 1) 0 [] held) value (gap ++ (crlf ++ crlf))
+    ∙ ap (λ (r : Reading). run terms r (gap ++ (crlf ++ crlf))) worth
+    ∙ ap (run terms (reading_at Value behind 0 value held)) (sym (append_assoc gap (13 ∷ []) (10 ∷ crlf)))
+    ∙ run-append terms (reading_at Value behind 0 value held) (gap ++ 13 ∷ []) (10 ∷ crlf)
     ∙ ap (λ (r : Reading). run terms r (10 ∷ crlf)) return'
     ∙ ap (λ (r : Reading). run terms r crlf) feed
     ∙ ap (λ (r : Reading). run terms r (10 ∷ [])) again
     ∙ last
     ∙ same_at Over value held _ _ _ _ sum refl
 
-long_end : (last name value : List ℕ) → length (end_text last name value) ≡ length last + 2 + (length name + length value + 5)
-long_end last name value =
-    let a = length-append last (crlf ++ (name ++ colon ∷ (value ++ (crlf ++ crlf)))) in
-    let b = length-append name (colon ∷ (value ++ (crlf ++ crlf))) in
-    let c = length-append value (crlf ++ crlf) in
-    omega (arith, a, b, c)
+long_end : (last name value gap : List ℕ) → length (end_text last name value gap) ≡ length last + 2 + (length name + length value + length gap + 5)
+long_end last name value gap =
+    let a = length-append last (crlf ++ (name ++ colon ∷ (value ++ (gap ++ (crlf ++ crlf))))) in
+    let b = length-append name (colon ∷ (value ++ (gap ++ (crlf ++ crlf)))) in
+    let c = length-append value (gap ++ (crlf ++ crlf)) in
+    let d = length-append gap (crlf ++ crlf) in
+    omega (arith, a, b, c, d)
 
-run_end : (terms : Terms) (last name value : List ℕ) (taken left : ℕ) (held : List ℕ) → IsZero last → left ≡ 0 → AreSameName name terms.name → is_value value ≡ true → taken + length (end_text last name value) ≡ terms.encoded → run terms (reading_at (Size (0, 0)) taken left [] held) (end_text last name value) ≡ reading_at Over terms.encoded 0 value held
-run_end terms last name value taken left held zero' none named valued whole =
-    let long = long_end last name value in
-    let rest = name ++ colon ∷ (value ++ (crlf ++ crlf)) in
+run_end : (terms : Terms) (last name value gap : List ℕ) (taken left : ℕ) (held : List ℕ) → IsZero last → left ≡ 0 → AreSameName name terms.name → is_value value ≡ true → IsGap gap → taken + length (end_text last name value gap) ≡ terms.encoded → run terms (reading_at (Size (0, 0)) taken left [] held) (end_text last name value gap) ≡ reading_at Over terms.encoded 0 value held
+run_end terms last name value gap taken left held zero' none named valued parted whole =
+    let long = long_end last name value gap in
+    let rest = name ++ colon ∷ (value ++ (gap ++ (crlf ++ crlf))) in
     let count = taken + (length last + 2) in
     let line = run_line terms last rest taken left held zero'.form (omega (arith, zero'.zero)) (omega (arith, long, whole)) in
     let gone : left - size_of last ≡ 0 = omega (arith, none) in
     line
     ∙ ap (λ (n : ℕ). run terms (reading_at (place_behind n) count (left - size_of last) [] held) rest) zero'.zero
     ∙ ap (λ (n : ℕ). run terms (reading_at (Name 0) count n [] held) rest) gone
-    ∙ run_trailer terms name value count held named valued (omega (arith, long, whole))
+    ∙ run_trailer terms name value gap count held named valued parted (omega (arith, long, whole))
 
 body_read : (terms : Terms) (text held value : List ℕ) → IsBody terms text held value → run terms (started terms) text ≡ reading_at Over terms.encoded 0 value held
 body_read terms text held value body =
-    let tail = end_text body.last body.name value in
+    let tail = end_text body.last body.name value body.gap in
     let chunks = chunks_text body.chunks in
     let long : length text ≡ length chunks + length tail = ap length body.written ∙ length-append chunks tail in
-    let more = long_end body.last body.name value in
+    let more = long_end body.last body.name value body.gap in
     let sum : length (data_of body.chunks) ≡ terms.decoded = ap length (sym body.joined) ∙ body.decoded in
     let start : started terms ≡ reading_at (Size (0, 0)) 0 terms.decoded [] [] = settled_going terms _ (omega (arith, long, more, body.encoded)) in
     ap (run terms (started terms)) body.written
     ∙ ap (λ (r : Reading). run terms r (chunks ++ tail)) start
     ∙ run-append terms (reading_at (Size (0, 0)) 0 terms.decoded [] []) chunks tail
     ∙ ap (λ (r : Reading). run terms r tail) (run_chunks terms body.chunks 0 terms.decoded [] body.each (omega (arith, sum)) (omega (arith, long, more, body.encoded)))
-    ∙ run_end terms body.last body.name value (0 + length chunks) (terms.decoded - length (data_of body.chunks)) ([] ++ data_of body.chunks) body.ends (omega (arith, sum)) body.named body.valued (omega (arith, long, body.encoded))
+    ∙ run_end terms body.last body.name value body.gap (0 + length chunks) (terms.decoded - length (data_of body.chunks)) ([] ++ data_of body.chunks) body.ends (omega (arith, sum)) body.named body.valued body.parted (omega (arith, long, body.encoded))
     ∙ ap (λ (h : List ℕ). reading_at Over terms.encoded 0 value h) (sym body.joined)
 
 pub body_accepted : (terms : Terms) (bytes : List ℕ) (ended : Bool) (held value : List ℕ) → terms.encoded ≤ length bytes → IsBody terms (take terms.encoded bytes) held value → verdict_of terms bytes ended ≡ Accepted held value

@@ -5,7 +5,7 @@ use Rattle.std.specs.List.{AllByRecursion, flat_map, list_all}
 use Rattle.std.specs.Char.{is_ascii_graphic, to_ascii_lowercase}
 use Rattle.std.specs.Str.Parse.{digits_value}
 use Rattle.s3_terms.specs.declared.code.Code.{Code}
-use Rattle.s3_text.specs.Characters.{colon, crlf}
+use Rattle.s3_text.specs.Characters.{colon, crlf, line_feed}
 use Rattle.s3_unsigned_chunks.specs.Place.{is_hex}
 use Rattle.s3_unsigned_chunks.specs.Reading.{Terms}
 use Rattle.s3_unsigned_chunks.specs.Verdict.{Refused, Accepted, Open, verdict_of}
@@ -44,9 +44,13 @@ data_of chunks = flat_map (λ (chunk : Chunk). chunk.bytes) chunks
 abbrev pub AreChunks : List Chunk → Type 0
 AreChunks chunks = AllByRecursion IsChunk chunks
 
+-- what may stand behind the value of a trailer in its line: nothing, or one line feed
+abbrev pub IsGap : List ℕ → Type 0
+IsGap gap = (gap ≡ []) ⊎ (gap ≡ line_feed ∷ [])
+
 -- what stands behind the chunks: the line of a last size, the line of the trailer, and the end of a line
-abbrev pub end_text : List ℕ → List ℕ → List ℕ → List ℕ
-end_text last name value = last ++ (crlf ++ (name ++ colon ∷ (value ++ (crlf ++ crlf))))
+abbrev pub end_text : List ℕ → List ℕ → List ℕ → List ℕ → List ℕ
+end_text last name value gap = last ++ (crlf ++ (name ++ colon ∷ (value ++ (gap ++ (crlf ++ crlf)))))
 
 -- the last size is zero
 pub record IsZero (size : List ℕ) : Type 0 where
@@ -66,11 +70,13 @@ pub record IsBody (terms : Terms) (text held value : List ℕ) : Type 0 where
   pub chunks : List Chunk
   pub last : List ℕ
   pub name : List ℕ
+  pub gap : List ℕ
   pub each : AreChunks chunks
   pub ends : IsZero last
   pub named : AreSameName name terms.name
   pub valued : is_value value ≡ true
-  pub written : text ≡ chunks_text chunks ++ end_text last name value
+  pub parted : IsGap gap
+  pub written : text ≡ chunks_text chunks ++ end_text last name value gap
   pub joined : held ≡ data_of chunks
   pub decoded : length held ≡ terms.decoded
   pub encoded : length text ≡ terms.encoded
@@ -88,11 +94,13 @@ pub record BeginsEnd (terms : Terms) (front : List ℕ) : Type 0 where
   pub last : List ℕ
   pub name : List ℕ
   pub value : List ℕ
+  pub gap : List ℕ
   pub rest : List ℕ
   pub ends : IsZero last
   pub named : AreSameName name terms.name
   pub valued : is_value value ≡ true
-  pub begun : end_text last name value ≡ front ++ rest
+  pub parted : IsGap gap
+  pub begun : end_text last name value gap ≡ front ++ rest
 
 -- the data so far: that of the chunks that the text begins with, and what has come of the data of the chunk behind them
 pub record HoldsSoFar (terms : Terms) (text held : List ℕ) : Type 0 where

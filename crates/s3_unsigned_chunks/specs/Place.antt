@@ -1,11 +1,12 @@
 -- The spelling of a body in chunks without signatures, byte by byte: what a byte says, by where it stands.
 -- A chunk is SIZE CRLF DATA CRLF; behind the last of them follow a size of zero and CRLF, the line NAME:VALUE CRLF of the
--- trailer, and CRLF (Amazon S3 API Reference, "Authenticating requests", STREAMING-UNSIGNED-PAYLOAD-TRAILER).
+-- trailer, and CRLF (Amazon S3 API Reference, "Authenticating requests", STREAMING-UNSIGNED-PAYLOAD-TRAILER). Behind VALUE one
+-- line feed may stand, as the examples of "Signature calculations for trailing headers" have it.
 use Rattle.std.specs.Prelude.{ℕ, ◌+◌, ◌*◌, ◌<◌, ◌&&◌, ◌==◌, nat_lt, if◌then◌else◌, Bool, List, length, slice_index, Option, Some, None}
 use Rattle.std.specs.Char.{digit_value, eq_ignore_ascii_case, is_ascii_graphic, is_digit}
 use Rattle.s3_text.specs.Characters.{carriage_return, line_feed, colon}
 use Rattle.s3_unsigned_chunks.specs.declared.place.Place.{Place}
-use Rattle.s3_unsigned_chunks.specs.declared.place.Place.TheVariants.{Size, SizeEnd, Data, DataEnd, Name, Value, ValueEnd, Last, LastEnd, Over, Refused}
+use Rattle.s3_unsigned_chunks.specs.declared.place.Place.TheVariants.{Size, SizeEnd, Data, DataEnd, Name, Value, Gap, ValueEnd, Last, LastEnd, Over, Refused}
 use Rattle.s3_unsigned_chunks.specs.declared.place.Step.{Step}
 use Rattle.s3_unsigned_chunks.specs.declared.place.Step.TheVariants.{Misspelled, Moves, Opens, Spells, Ends}
 
@@ -43,10 +44,11 @@ read_name name count byte =
     then (if eq_ignore_ascii_case byte (slice_index name count) then Moves (Name (count + 1)) else Misspelled)
     else expected byte colon Value
 
--- a byte of the trailer's value, of which so many have come, or the CR behind it: 1 to 64 visible characters
+-- a byte of the trailer's value, of which so many have come, or the line feed or the CR behind it: 1 to 64 visible characters
 abbrev pub read_value : ℕ → ℕ → Step
 read_value count byte =
     if byte == carriage_return && nat_lt 0 count then Moves ValueEnd
+    else if byte == line_feed && nat_lt 0 count then Moves Gap
     else if is_ascii_graphic byte && nat_lt count 64 then Spells
     else Misspelled
 
@@ -62,6 +64,7 @@ read name count (Data left) byte = expected byte carriage_return DataEnd
 read name count DataEnd byte = expected byte line_feed (Size (0, 0))
 read name count (Name matched) byte = read_name name matched byte
 read name count Value byte = read_value count byte
+read name count Gap byte = expected byte carriage_return ValueEnd
 read name count ValueEnd byte = expected byte line_feed Last
 read name count Last byte = expected byte carriage_return LastEnd
 read name count LastEnd byte = read_end byte

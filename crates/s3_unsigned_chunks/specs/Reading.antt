@@ -4,7 +4,7 @@ use Rattle.s3_terms.specs.declared.code.Code.{Code}
 use Rattle.s3_terms.specs.declared.code.Code.TheVariants.{InvalidRequest, IncompleteBody}
 use Rattle.s3_unsigned_chunks.specs.Place.{read}
 use Rattle.s3_unsigned_chunks.specs.declared.place.Place.{Place}
-use Rattle.s3_unsigned_chunks.specs.declared.place.Place.TheVariants.{Size, SizeEnd, Data, DataEnd, Name, Value, ValueEnd, Last, LastEnd, Over, Refused}
+use Rattle.s3_unsigned_chunks.specs.declared.place.Place.TheVariants.{Size, SizeEnd, Data, DataEnd, Name, Value, Gap, ValueEnd, Last, LastEnd, Over, Refused}
 use Rattle.s3_unsigned_chunks.specs.declared.place.Fault.{Fault}
 use Rattle.s3_unsigned_chunks.specs.declared.place.Fault.TheVariants.{Invalid, Incomplete}
 use Rattle.s3_unsigned_chunks.specs.declared.place.Step.{Step}
@@ -40,6 +40,7 @@ code_at (Data left) = None
 code_at DataEnd = None
 code_at (Name matched) = None
 code_at Value = None
+code_at Gap = None
 code_at ValueEnd = None
 code_at Last = None
 code_at LastEnd = None
@@ -55,6 +56,7 @@ is_settled (Data left) = false
 is_settled DataEnd = false
 is_settled (Name matched) = false
 is_settled Value = false
+is_settled Gap = false
 is_settled ValueEnd = false
 is_settled Last = false
 is_settled LastEnd = false
@@ -67,6 +69,7 @@ is_data (SizeEnd size) = false
 is_data DataEnd = false
 is_data (Name matched) = false
 is_data Value = false
+is_data Gap = false
 is_data ValueEnd = false
 is_data Last = false
 is_data LastEnd = false
@@ -81,6 +84,7 @@ data_left (SizeEnd size) count = SizeEnd size
 data_left DataEnd count = DataEnd
 data_left (Name matched) count = Name matched
 data_left Value count = Value
+data_left Gap count = Gap
 data_left ValueEnd count = ValueEnd
 data_left Last count = Last
 data_left LastEnd count = LastEnd

@@ -27,6 +27,7 @@ verdict_at (places.Data left) taken value held = Open held
 verdict_at places.DataEnd taken value held = Open held
 verdict_at (places.Name matched) taken value held = Open held
 verdict_at places.Value taken value held = Open held
+verdict_at places.Gap taken value held = Open held
 verdict_at places.ValueEnd taken value held = Open held
 verdict_at places.Last taken value held = Open held
 verdict_at places.LastEnd taken value held = Open held

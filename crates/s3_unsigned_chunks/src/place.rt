@@ -46,7 +46,9 @@ pub(crate) enum Place {
     Name(usize),
     /// In the value of the trailer.
     Value,
-    /// Behind the CR that follows the value.
+    /// Behind the line feed that may follow the value.
+    Gap,
+    /// Behind the CR that ends the line of the value.
     ValueEnd,
     /// Behind the line of the trailer.
     Last,
@@ -162,13 +164,15 @@ fn read_name(name: &[u8], count: usize, byte: u8) -> Step
     }
 }
 
-// What a byte of the trailer's value says, of which so many have come, or the CR behind it.
+// What a byte of the trailer's value says, of which so many have come, or what may stand behind it: a line feed, or the CR.
 fn read_value(count: u8, byte: u8) -> Step
     ensures value { result ≡ spelling.read_value count byte }
     ensures room { HasRoom result count }
 {
     if byte == b'\r' && count > 0 {
         Step::Moves(Place::ValueEnd)
+    } else if byte == b'\n' && count > 0 {
+        Step::Moves(Place::Gap)
     } else if byte.is_ascii_graphic() && count < VALUE_MAX {
         Step::Spells
     } else {
@@ -189,6 +193,7 @@ pub(crate) fn read(name: &[u8], count: u8, place: Place, byte: u8) -> Step
         Place::DataEnd => expect(byte, b'\n', Place::start()),
         Place::Name(count) => read_name(name, count, byte),
         Place::Value => read_value(count, byte),
+        Place::Gap => expect(byte, b'\r', Place::ValueEnd),
         Place::ValueEnd => expect(byte, b'\n', Place::Last),
         Place::Last => expect(byte, b'\r', Place::LastEnd),
         Place::LastEnd => read_end(byte),

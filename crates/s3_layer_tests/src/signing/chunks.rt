@@ -14,6 +14,7 @@ use s3_http_heads::Head;
 use s3_signing::{ChunkChain, Verified};
 use s3_terms::{Code, NoMemory};
 use s3_test_servers::SECRET;
+use sha2::{Digest, Sha256};
 use std::alloc::Global;
 
 /// The data of a body.
@@ -452,6 +453,22 @@ fn first_other(alloc: Global) -> Option<&'static str> {
     }
 }
 
+// A signature of a last chunk, and that of the trailer behind it, as the tests of the library minio-go have them after an
+// example of the Amazon S3 API Reference ("Signature calculations for trailing headers included in the payload").
+const LAST: [u8; 64] = *b"e05ab64fe1dfdbf0b5870abbaabdb063c371d4e96f2767e6934d90529c5ae850";
+
+const TRAILER: [u8; 64] = *b"41e14ac611e27a8bb3d66c3bad6856f209297767d5dd4fc87d8fa9e422e03faf";
+
+// Whether the trailer has that signature, and not the one of the last chunk.
+fn is_trailer_signed() -> bool {
+    let Some(stamp) = Stamp::read(STAMP) else {
+        return false;
+    };
+    let chain = ChunkChain::from_secret(SECRET, REGION, stamp, LAST);
+    let hash = Sha256::digest(b"x-amz-checksum-crc32c:wdBDMA==\n");
+    chain.is_trailer(hash, &TRAILER) && !chain.is_trailer(hash, &LAST)
+}
+
 // The size of a body around the ends of blocks, and that of the chunks in which it comes.
 static AROUND_BLOCKS: [(usize, usize); 8] = [
     (65_535, 8_192),
@@ -519,4 +536,5 @@ fn bodies_in_chunks(rt: HostRuntime) {
             && written_length(0, 1) == Some(86),
         "lengths of bodies in chunks",
     );
+    check(&rt, is_trailer_signed(), "the signature of a trailer");
 }

@@ -1,7 +1,8 @@
-use Rattle.std.proofs.Common.{ap, take, ◌++◌, ◌∙◌}
+use Rattle.std.proofs.Common.{ap, take, ◌++◌, ◌∙◌, rules}
 use Rattle.s3_aws_chunked.specs.Count.{advanced}
 use Rattle.s3_aws_chunked.specs.Decoder.{Progress, run}
 use Rattle.s3_aws_chunked.proofs.RunLemmas.{advanced_twice, run_rest, fits_rest}
+use Rattle.s3_aws_chunked.proofs.BeforeLemmas.{before_more, stops_between}
 use Rattle.s3_aws_chunked.proofs.SinkLemmas.{grows_more}
 use Rattle.s3_aws_chunked.proofs.decoder.Decoder.advance.Goals as goal
 
@@ -19,6 +20,9 @@ loop-taken-preserved g c =
       sink = λ p shown front had.
           c.in_ok-taken.ensures.sink (run p (take n bytes)) (c.loop-taken.invariant.shows p shown) front (c.loop-taken.invariant.sink p shown front had)
           ∙ ap (λ (q : Progress). front ++ q.held) (run_rest p bytes n m);
+      before = λ front p shown.
+          before_more p bytes n m c.loop-taken.invariant.within (c.loop-taken.invariant.before front p shown)
+          (c.in_ok-taken.ensures.before (stops_between c.args.front c.loop-taken.self.place front (search rules)) (run p (take n bytes)) (c.loop-taken.invariant.shows p shown));
       grows = grows_more (g.S.Sink.taken c.args.sink.now) (g.S.Sink.taken c.loop-taken.sink) (g.S.Sink.taken c.step.new.sink) c.loop-taken.invariant.grows c.in_ok-taken.ensures.grows;
     }
 

@@ -1,4 +1,4 @@
-use Rattle.std.proofs.Common.{◌≡◌, ◌-◌, ◌≤◌, length, take}
+use Rattle.std.proofs.Common.{◌≡◌, ◌-◌, ◌≤◌, true, length, take}
 use Rattle.s3_aws_chunked.specs.Count.{advanced}
 use Rattle.s3_aws_chunked.specs.Sinks.{Grows}
 use Rattle.s3_aws_chunked.specs.Decoder as reading
@@ -11,6 +11,7 @@ invariant-loop-taken g l = record {
   shows : (p : reading.Progress) → reading.Shows l.initial.self p → reading.Shows l.self (reading.run p (take l.taken l.bytes));
   sink : (p : reading.Progress) → reading.Shows l.initial.self p
       → reading.Keeps (g.S.Sink.taken l.initial.sink) (g.S.Sink.taken l.sink) p (reading.run p (take l.taken l.bytes));
+  before : l.front ≡ true → (p : reading.Progress) → reading.Shows l.initial.self p → reading.StandBefore p l.bytes l.taken;
   grows : Grows (g.S.Sink.taken l.initial.sink) (g.S.Sink.taken l.sink);
 }
 

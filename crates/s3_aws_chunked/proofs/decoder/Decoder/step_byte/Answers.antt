@@ -2,6 +2,7 @@ use Rattle.std.proofs.Common.{◌≡◌, ◌∙◌, ap, get_or, take, [], ◌∷
 use Rattle.std.proofs.lemmas.List.{take_more}
 use Rattle.s3_aws_chunked.specs.Decoder.{Progress}
 use Rattle.s3_aws_chunked.proofs.RunLemmas.{first_byte, byte_held}
+use Rattle.s3_aws_chunked.proofs.BeforeLemmas.{before_first}
 use Rattle.s3_aws_chunked.proofs.decoder.Decoder.step_byte.Goals as goal
 
 pub returns-clause-shows : goal.returns-clause-shows
@@ -17,3 +18,6 @@ returns-clause-held c = λ p shown.
     let first : take 1 bytes ≡ get_or bytes 0 0 ∷ [] = take_more bytes 0 0 c.requires.some in
     ap (λ (q : Progress). q.held) (first_byte c.args.self.now.place p bytes (get_or bytes 0 0) shown.place c.requires.open c.requires.phase first)
     ∙ byte_held p (get_or bytes 0 0)
+
+pub returns-clause-before : goal.returns-clause-before
+returns-clause-before c = λ open' p shown. before_first c.args.self.now.place p c.args.bytes.now shown.place open'
