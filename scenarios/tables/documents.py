@@ -21,11 +21,11 @@ ORDER = {
     "Contents": "ETag Key LastModified Owner Size StorageClass",
     "CommonPrefixes": "Prefix",
     "ListVersionsResult": """IsTruncated KeyMarker VersionIdMarker NextKeyMarker NextVersionIdMarker Versions Name
-        Prefix MaxKeys EncodingType""",
+        Prefix Delimiter MaxKeys CommonPrefixes EncodingType""",
     "Version": "ETag IsLatest Key LastModified Owner Size StorageClass VersionId",
     "DeleteMarker": "IsLatest Key LastModified Owner VersionId",
-    "ListMultipartUploadsResult": """Bucket KeyMarker UploadIdMarker NextKeyMarker Prefix NextUploadIdMarker MaxUploads
-        IsTruncated Uploads EncodingType""",
+    "ListMultipartUploadsResult": """Bucket KeyMarker UploadIdMarker NextKeyMarker Prefix Delimiter NextUploadIdMarker
+        MaxUploads IsTruncated Uploads CommonPrefixes EncodingType""",
     "Upload": "Initiated Key Owner StorageClass UploadId",
     "ListPartsResult": """Bucket Key UploadId PartNumberMarker NextPartNumberMarker MaxParts IsTruncated Parts Owner
         StorageClass""",

@@ -1,7 +1,7 @@
 """The lists of a server: the tables "Lists" and "Documents" of docs/PROTOCOL.md. All entries are sorted, and then
 those that are asked for are picked, rolled up and counted. (Python orders texts as their bytes of UTF-8.)"""
 
-from .documents import OWNED, url_encoded
+from .documents import JSON, OWNED, url_encoded
 from .requests import UPLOAD_ID, refuse, token_of
 from .store import Store, page_of, quoted, stamp
 
@@ -24,6 +24,25 @@ def part_row(number, part):
     return {"ETag": tag, "LastModified": stamp(part.moment), "PartNumber": number, "Size": part.body.size}
 
 
+def common_prefix(key, prefix, delimiter):
+    """What a key has up to the end of the first delimiter after the prefix, where it holds one there."""
+    before, found, _ = key[len(prefix) :].partition(delimiter) if delimiter else ("", "", "")
+    return prefix + before + found if found else None
+
+
+def rolled(rows, asked, marker):
+    """The items of rows, each with its key: themselves, or their common prefixes, each once, and only where it is greater
+    than the key of the marker."""
+    items = []
+    for key, row in rows:
+        common = common_prefix(key, *asked)
+        if common is None:
+            items.append((key, row))
+        elif common > marker and (common, None) not in items[-1:]:
+            items.append((common, None))
+    return items
+
+
 class Server(Store):
     """A server: its store, and the lists of that."""
 
@@ -40,8 +59,8 @@ class Server(Store):
         for key, version in self.bucket(request).current().items():
             key = key.decode()
             if key.startswith(prefix) and key > start:
-                before, found, _ = key[len(prefix) :].partition(delimiter) if delimiter else ("", "", "")
-                items[prefix + before + found if found else key] = None if found else version
+                common = common_prefix(key, prefix, delimiter)
+                items[common or key] = None if common else version
         given, is_truncated = page_of(sorted(item for item in items if item > behind), most)
         told = {
             "CommonPrefixes": [{"Prefix": item} for item in given if items[item] is None],
@@ -70,18 +89,29 @@ class Server(Store):
         told |= {"NextContinuationToken": given[-1].encode().hex()} if told["IsTruncated"] else {}
         return self.listed(told, is_encoded)
 
+    def rolling(self, request):
+        """By what keys are rolled up in a list of versions or of uploads, where it has common prefixes."""
+        refuse(self.dialect == JSON and request.value("delimiter", bytes, b"") != b"", "NotImplemented")
+        return request.value("prefix", otherwise=""), request.value("delimiter", otherwise="")
+
+    @staticmethod
+    def prefixes(given, delimiter):
+        """What is told of a delimiter and of the common prefixes of a page."""
+        told = [{"Prefix": text} for text, row in given if row is None]
+        return {} if delimiter == "" else {"CommonPrefixes": told, "Delimiter": delimiter}
+
     def list_object_versions(self, request):
-        refuse(request.value("delimiter", bytes, b"") != b"", "NotImplemented")
+        asked = self.rolling(request)
         is_encoded = request.is_encoded()
-        prefix, key_marker = request.value("prefix", otherwise=""), request.value("key-marker", otherwise="")
+        prefix, key_marker = asked[0], request.value("key-marker", otherwise="")
         marker, most, entries = request.version_id("version-id-marker"), request.count("max-keys"), []
         refuse(marker is not None and key_marker == "")
         for key, versions in sorted(self.bucket(request).keys.items()):
             key, names = key.decode(), [version.name for version in versions]
             behind = names.index(marker) + 1 if key == key_marker and marker in names else 0
             if key.startswith(prefix) and (key > key_marker or behind):
-                entries += [(key, version, version is versions[0]) for version in versions[behind:]]
-        given, is_truncated = page_of(entries, most)
+                entries += [(key, (version, version is versions[0])) for version in versions[behind:]]
+        given, is_truncated = page_of(rolled(entries, asked, key_marker), most)
         told = {
             "IsTruncated": is_truncated,
             "KeyMarker": key_marker,
@@ -89,24 +119,26 @@ class Server(Store):
             "Name": request.bucket.decode(),
             "Prefix": prefix,
             "VersionIdMarker": marker or "",
-            "Versions": [version_row(*entry) for entry in given],
+            "Versions": [version_row(key, *row) for key, row in given if row is not None],
         }
         if is_truncated:
-            told |= {"NextKeyMarker": given[-1][0], "NextVersionIdMarker": given[-1][1].name}
-        return self.listed(told, is_encoded)
+            key, row = given[-1]
+            told |= {"NextKeyMarker": key} | ({} if row is None else {"NextVersionIdMarker": row[0].name})
+        return self.listed(told | self.prefixes(given, asked[1]), is_encoded)
 
     def list_multipart_uploads(self, request):
-        refuse(request.value("delimiter", bytes, b"") != b"", "NotImplemented")
+        asked = self.rolling(request)
         is_encoded = request.is_encoded()
-        prefix, key_marker = request.value("prefix", otherwise=""), request.value("key-marker", otherwise="")
+        prefix, key_marker = asked[0], request.value("key-marker", otherwise="")
         marker, most = request.value("upload-id-marker", bytes), request.count("max-uploads")
         refuse(marker is not None and (key_marker == "" or not UPLOAD_ID.fullmatch(marker)))
         marker, entries = (marker or b"").decode(), []
         for (key, name), upload in sorted(self.bucket(request).uploads.items()):
             is_behind = (key.decode(), name) > (key_marker, marker) if marker else key.decode() > key_marker
             if key.decode().startswith(prefix) and is_behind:
-                entries.append({"Initiated": stamp(upload.moment), "Key": key.decode(), "UploadId": name})
-        given, is_truncated = page_of(entries, most)
+                row = {"Initiated": stamp(upload.moment), "Key": key.decode(), "UploadId": name}
+                entries.append((key.decode(), row))
+        given, is_truncated = page_of(rolled(entries, asked, key_marker), most)
         told = {
             "Bucket": request.bucket.decode(),
             "IsTruncated": is_truncated,
@@ -114,11 +146,12 @@ class Server(Store):
             "MaxUploads": most,
             "Prefix": prefix,
             "UploadIdMarker": marker,
-            "Uploads": given,
+            "Uploads": [row for _, row in given if row is not None],
         }
         if is_truncated:
-            told |= {"NextKeyMarker": given[-1]["Key"], "NextUploadIdMarker": given[-1]["UploadId"]}
-        return self.listed(told, is_encoded)
+            key, row = given[-1]
+            told |= {"NextKeyMarker": key} | ({} if row is None else {"NextUploadIdMarker": row["UploadId"]})
+        return self.listed(told | self.prefixes(given, asked[1]), is_encoded)
 
     def list_parts(self, request):
         marker, most = request.digits("part-number-marker", b"0"), request.count("max-parts")

@@ -23,6 +23,7 @@ ORDER = (
     "x-amz-version-id",
     "x-amz-copy-source-version-id",
     "x-amz-delete-marker",
+    "x-amz-bucket-region",
     "Location",
     "ETag",
     "Last-Modified",

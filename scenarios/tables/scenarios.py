@@ -15,8 +15,9 @@ from .turned import body_lines, bytes_of
 
 
 def markers_of(page):
-    """What asks for the versions after those of a page."""
-    return f"&key-marker={quote(page['NextKeyMarker'])}&version-id-marker={page['NextVersionIdMarker']}"
+    """What asks for the versions after those of a page; after a common prefix no id is asked for."""
+    behind = page.get("NextVersionIdMarker")
+    return f"&key-marker={quote(page['NextKeyMarker'])}" + ("" if behind is None else f"&version-id-marker={behind}")
 
 
 def marker_of(page):

@@ -12,6 +12,8 @@ from .documents import JSON, S3, document
 from .replies import INSTEAD, OF_UNCHANGED, START, of_got, of_stored, of_told, of_unmodified, reply
 from .requests import CONFIGURATIONS, Refused, is_s3, operation, refuse
 
+# The region of the servers of scenarios.
+REGION = "us-east-1"
 # The least size of a part, but for the last one, in the servers of scenarios.
 MIN_PART = 5
 
@@ -255,7 +257,7 @@ class Store:
 
     def head_bucket(self, request):
         self.bucket(request)
-        return self.reply(200)
+        return self.reply(200, [f"x-amz-bucket-region: {REGION}"] if self.dialect == S3 else [])
 
     def delete_bucket(self, request):
         bucket = self.bucket(request)
@@ -274,8 +276,8 @@ class Store:
 
     def get_bucket_location(self, request):
         self.bucket(request)
-        # Servers of scenarios are in us-east-1, which S3 tells by no letters.
-        return self.told({"LocationConstraint": ""})
+        # S3 tells this region by no letters.
+        return self.told({"LocationConstraint": "" if REGION == "us-east-1" else REGION})
 
     def get_bucket_configuration(self, request):
         self.bucket(request)

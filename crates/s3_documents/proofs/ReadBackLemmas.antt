@@ -1,5 +1,5 @@
 -- Documents in XML are read back.
-use Rattle.std.proofs.Common.{◌≡◌, refl, ◌≤◌, Bool, true, false, if◌then◌else◌, ℕ, suc, length, List, [], ◌∷◌, ◌++◌, codes, is_none, Option, Some, None, option_map, arith}
+use Rattle.std.proofs.Common.{◌≡◌, refl, ◌≤◌, Bool, true, false, if◌then◌else◌, ℕ, suc, length, List, [], ◌∷◌, ◌++◌, codes, is_none, is_some, Option, Some, None, option_map, arith}
 use Rattle.std.specs.List.{flat_map, list_all}
 use Rattle.std.proofs.lemmas.Bool.{and_parts, lt-ltb}
 use Rattle.s3_versions.specs.declared.version.Versioning.TheVariants.{Unversioned, Enabled, Suspended}
@@ -10,6 +10,7 @@ use Rattle.s3_deletions.specs.declared.told.DeletionRow.TheVariants.{Deleted, Fa
 use Rattle.s3_names.specs.declared.ids.VersionId.{VersionId}
 use Rattle.s3_records.specs.declared.rows.VersionRow.{VersionRow}
 use Rattle.s3_listings.specs.Pages.{next_of}
+use Rattle.s3_listings.specs.Rolled.{next_row}
 use Rattle.s3_xml.specs.Documents.{goes_on, is_document, document_of}
 use Rattle.s3_xml.specs.Events.{Event, leaf, element, text_in}
 use Rattle.s3_xml.specs.Events as xml
@@ -22,6 +23,7 @@ use Rattle.s3_documents.specs.Buckets.{bucket_row}
 use Rattle.s3_documents.specs.Copied.{copied_fields}
 use Rattle.s3_documents.specs.Deleted.{deleted_fields, fault_fields}
 use Rattle.s3_documents.specs.Error.{error_elements}
+use Rattle.s3_documents.specs.NextPage.{next_key}
 use Rattle.s3_documents.specs.ObjectList.{prefix_row, key_count, token_told, delimiter_told}
 use Rattle.s3_documents.specs.PartList.{part_fields, number_of_part}
 use Rattle.s3_documents.specs.Spelling.{document_text}
@@ -30,7 +32,7 @@ use Rattle.s3_documents.specs.Upload.{begun_fields}
 use Rattle.s3_documents.specs.UploadList.{upload_marker_told, key_of_upload, id_of_upload}
 use Rattle.s3_documents.specs.VersionList.{key_of_row, id_of_row, tag_of_facts, size_of_facts}
 use Rattle.s3_documents.specs.Versioning.{versioning_fields}
-use Rattle.s3_documents.specs.Xml.{in_first, in_second, marker_asked, next_marker, standard, encoding_told, completed_elements, plain, objects_manner, owned_manner, content_of, fields_events, element_of, owner, owner_fields, owner_in, owned, listed, bucket_events, object_before, object_behind, object_events, prefix_events, version_name, version_before, version_behind, version_events, begun_before, begun_behind, upload_events, part_events, deletion_events, objects_before, objects_between, objects_behind, versions_before, versions_behind, uploads_before, uploads_behind, parts_before, parts_behind, root_of, namespace, namespace_of, events_of}
+use Rattle.s3_documents.specs.Xml.{in_first, in_second, marker_asked, next_marker, standard, encoding_told, completed_elements, plain, objects_manner, owned_manner, content_of, fields_events, element_of, owner, owner_fields, owner_in, owned, listed, bucket_events, object_before, object_behind, object_events, prefix_events, version_name, version_before, version_behind, version_events, begun_before, begun_behind, upload_events, part_events, deletion_events, objects_before, objects_between, objects_behind, versions_before, versions_between, versions_behind, uploads_before, uploads_behind, parts_before, parts_behind, root_of, namespace, namespace_of, events_of}
 use Rattle.s3_documents.specs.declared.xml.Manner.{Manner}
 use Rattle.s3_terms.specs.Code.{name_of, message_of}
 use Rattle.s3_terms.specs.declared.dialect.Dialect.TheVariants.{S3}
@@ -98,22 +100,27 @@ objects_behind_named encoding count token next start =
     (told_named (codes "NextContinuationToken") next refl))
     (told_named (codes "StartAfter") start refl)
 
-uploads_before_named : (bucket key id prefix most more : Value) (next_key next_id : Option Value)
+uploads_before_named : (bucket key id prefix most more : Value) (next_key delimiter next_id : Option Value)
     → IsNamed (
     (codes "Bucket", bucket)
     ∷ (codes "KeyMarker", key)
     ∷ (codes "UploadIdMarker", id)
     ∷ told (codes "NextKeyMarker") next_key
     ++ (codes "Prefix", prefix)
-    ∷ told (codes "NextUploadIdMarker") next_id
+    ∷ told (codes "Delimiter") delimiter
+    ++ told (codes "NextUploadIdMarker") next_id
     ++ (codes "MaxUploads", most)
     ∷ (codes "IsTruncated", more)
     ∷ []
     )
-uploads_before_named bucket key id prefix most more None None = refl
-uploads_before_named bucket key id prefix most more None (Some next_id) = refl
-uploads_before_named bucket key id prefix most more (Some next_key) None = refl
-uploads_before_named bucket key id prefix most more (Some next_key) (Some next_id) = refl
+uploads_before_named bucket key id prefix most more None None None = refl
+uploads_before_named bucket key id prefix most more None None (Some next_id) = refl
+uploads_before_named bucket key id prefix most more None (Some delimiter) None = refl
+uploads_before_named bucket key id prefix most more None (Some delimiter) (Some next_id) = refl
+uploads_before_named bucket key id prefix most more (Some next_key) None None = refl
+uploads_before_named bucket key id prefix most more (Some next_key) None (Some next_id) = refl
+uploads_before_named bucket key id prefix most more (Some next_key) (Some delimiter) None = refl
+uploads_before_named bucket key id prefix most more (Some next_key) (Some delimiter) (Some next_id) = refl
 
 parts_before_named : (bucket key id marker most more : Value) (next : Option Value)
     → IsNamed (
@@ -207,39 +214,45 @@ module _ (law : ContentsFit) where
       (rows_fit 2 (bucket_events plain) (λ bucket. element_fits plain (codes "Bucket") (bucket_row bucket) refl refl) list))
       (law.deeper 2 3 owner (omega arith) owner_fits)
 
+  -- rows and common prefixes, with fields in front of them, between them and behind them
+  rolled_fit : {A : Type 0} (manner : Manner) (events : A → List Event) (before between behind : Fields) (rows : List A) (prefixes : List (List ℕ))
+      → IsNamed before → ((row : A) → Fits 3 (events row)) → IsNamed between → IsNamed behind
+      → Fits 3 (fields_events manner before ++ flat_map events rows ++ listed manner between (flat_map (prefix_events manner) prefixes) behind)
+  rolled_fit manner events before between behind rows prefixes first each middle last =
+      law.several 3 (fields_events manner before ++ flat_map events rows) (listed manner between (flat_map (prefix_events manner) prefixes) behind)
+      (law.several 3 (fields_events manner before) (flat_map events rows) (fields_within manner 3 before (omega arith) first) (rows_fit 3 events each rows))
+      (listed_fits manner between behind (flat_map (prefix_events manner) prefixes) middle
+      (rows_fit 3 (prefix_events manner) (λ prefix. law.deeper 2 3 (prefix_events manner prefix) (omega arith) (element_fits manner (codes "CommonPrefixes") (prefix_row prefix) refl refl)) prefixes)
+      last)
+
   objects_fit : (name : List ℕ) (asked : _) (page : _) → Fits 3 (events_of (objects name asked page))
   objects_fit name asked page =
       let manner = objects_manner asked in
-      law.several 3
-      (fields_events manner (objects_before asked page) ++ flat_map (object_events manner) page.contents)
-      (listed manner (objects_between name asked) (flat_map (prefix_events manner) page.prefixes) (objects_behind asked page))
-      (law.several 3 (fields_events manner (objects_before asked page)) (flat_map (object_events manner) page.contents)
-      (fields_within manner 3 (objects_before asked page) (omega arith)
+      rolled_fit manner (object_events manner) (objects_before asked page) (objects_between name asked) (objects_behind asked page) page.contents page.prefixes
       (two_named (codes "Marker") (codes "NextMarker") (in_first asked.version (Some (marker_asked asked.token)))
-      (in_first asked.version (next_marker asked.delimiter page.next)) refl refl))
-      (rows_fit 3 (object_events manner) (λ object. owned_fits manner (codes "Contents") (object_before object) (object_behind object) refl refl refl) page.contents))
-      (listed_fits manner (objects_between name asked) (objects_behind asked page) (flat_map (prefix_events manner) page.prefixes)
+      (in_first asked.version (next_marker asked.delimiter page.next)) refl refl)
+      (λ object. owned_fits manner (codes "Contents") (object_before object) (object_behind object) refl refl refl)
       (between_named (text name) (encodable asked.prefix) (number asked.max_keys) (delimiter_told asked.delimiter))
-      (rows_fit 3 (prefix_events manner) (λ prefix. law.deeper 2 3 (prefix_events manner prefix) (omega arith) (element_fits manner (codes "CommonPrefixes") (prefix_row prefix) refl refl)) page.prefixes)
       (objects_behind_named (encoding_told asked.is_url_encoded) (in_second asked.version (Some (number (key_count page))))
       (in_second asked.version (option_map token_told asked.token)) (in_second asked.version (option_map token_told page.next))
-      (in_second asked.version (option_map encodable asked.start_after))))
+      (in_second asked.version (option_map encodable asked.start_after)))
 
   versions_fit : (name : List ℕ) (asked : _) (page : _) → Fits 3 (events_of (versions name asked page))
   versions_fit name asked page =
       let manner = owned_manner asked.is_url_encoded in
-      listed_fits manner (versions_before asked page) (versions_behind name asked) (flat_map (version_events manner) page.given)
-      (two_named (codes "NextKeyMarker") (codes "NextVersionIdMarker") (option_map key_of_row (next_of page)) (option_map id_of_row (next_of page)) refl refl)
-      (rows_fit 3 (version_events manner) (version_fits manner) page.given)
+      rolled_fit manner (version_events manner) (versions_before asked page) (versions_between name asked) (versions_behind asked) page.rows page.prefixes
+      (two_named (codes "NextKeyMarker") (codes "NextVersionIdMarker") (next_key key_of_row page) (option_map id_of_row (next_row page)) refl refl)
+      (version_fits manner)
+      (between_named (text name) (encodable asked.prefix) (number asked.max_keys) (delimiter_told asked.delimiter))
       (told_named (codes "EncodingType") (encoding_told asked.is_url_encoded) refl)
 
   uploads_fit : (name : List ℕ) (asked : _) (page : _) → Fits 3 (events_of (uploads name asked page))
   uploads_fit name asked page =
       let manner = owned_manner asked.is_url_encoded in
-      listed_fits manner (uploads_before name asked page) (uploads_behind asked) (flat_map (upload_events manner) page.given)
+      rolled_fit manner (upload_events manner) (uploads_before name asked page) [] (uploads_behind asked) page.rows page.prefixes
       (uploads_before_named (text name) (encodable asked.key_marker) (text (upload_marker_told asked.id_marker)) (encodable asked.prefix)
-      (number asked.max_uploads) (truth page.is_truncated) (option_map key_of_upload (next_of page)) (option_map id_of_upload (next_of page)))
-      (rows_fit 3 (upload_events manner) (λ row. owned_fits manner (codes "Upload") (begun_before row) (begun_behind row) refl refl refl) page.given)
+      (number asked.max_uploads) (truth (is_some page.next)) (next_key key_of_upload page) (delimiter_told asked.delimiter) (option_map id_of_upload (next_row page)))
+      (λ row. owned_fits manner (codes "Upload") (begun_before row) (begun_behind row) refl refl refl) refl
       (told_named (codes "EncodingType") (encoding_told asked.is_url_encoded) refl)
 
   parts_fit : (bucket key : List ℕ) (id : ℕ) (asked : _) (page : _) → Fits 3 (events_of (parts bucket key id asked page))

@@ -13,6 +13,7 @@ use Rattle.s3_listings.specs.declared.asked.UploadsAsked.{UploadsAsked}
 use Rattle.s3_listings.specs.declared.asked.VersionsAsked.{VersionsAsked}
 use Rattle.s3_listings.specs.Objects.{ObjectsTold}
 use Rattle.s3_listings.specs.Pages.{Page}
+use Rattle.s3_listings.specs.Rolled.{RowsTold}
 use Rattle.s3_documents.specs.Buckets.{buckets_tree}
 use Rattle.s3_documents.specs.Copied.{copied_fields}
 use Rattle.s3_documents.specs.Error.{error_fields}
@@ -30,8 +31,8 @@ pub data Document : Type 0 where
   buckets : List ListedBucket → Document
   -- ListObjects and ListObjectsV2, ListObjectVersions and ListMultipartUploads: the bucket, what was asked, and the page
   objects : List ℕ → ObjectsAsked → ObjectsTold → Document
-  versions : List ℕ → VersionsAsked → Page VersionRow → Document
-  uploads : List ℕ → UploadsAsked → Page UploadRow → Document
+  versions : List ℕ → VersionsAsked → RowsTold VersionRow → Document
+  uploads : List ℕ → UploadsAsked → RowsTold UploadRow → Document
   -- ListParts: the bucket, the key and the id of the upload, what was asked, and the page
   parts : (bucket key : List ℕ) → ℕ → PartsAsked → Page PartRow → Document
   -- CreateMultipartUpload: the bucket, the key and the id of the upload

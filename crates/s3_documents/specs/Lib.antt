@@ -7,6 +7,7 @@ pub mod Json
 pub mod Laws
 pub mod Listed
 pub mod Location
+pub mod NextPage
 pub mod ObjectList
 pub mod PartList
 pub mod Printed

@@ -21,12 +21,14 @@ use Rattle.s3_listings.specs.declared.asked.VersionsAsked.{VersionsAsked}
 use Rattle.s3_listings.specs.declared.object_page.ListedObject.{ListedObject}
 use Rattle.s3_listings.specs.Objects.{ObjectsTold}
 use Rattle.s3_listings.specs.Pages.{Page, next_of}
+use Rattle.s3_listings.specs.Rolled.{RowsTold, next_row}
 use Rattle.s3_documents.specs.Buckets.{bucket_row}
 use Rattle.s3_documents.specs.Copied.{tag_told, copied_fields}
 use Rattle.s3_documents.specs.Deleted.{deleted_fields, fault_fields}
 use Rattle.s3_documents.specs.Document.{Document, buckets, objects, versions, uploads, parts, begun, completed, deletions, copied, part_copied, versioning, location, tags, error}
 use Rattle.s3_documents.specs.Error.{error_elements}
 use Rattle.s3_documents.specs.Location.{constraint_told}
+use Rattle.s3_documents.specs.NextPage.{next_key}
 use Rattle.s3_documents.specs.ObjectList.{prefix_row, key_count, token_told, delimiter_told}
 use Rattle.s3_documents.specs.PartList.{part_fields, number_of_part}
 use Rattle.s3_documents.specs.Printed.{told}
@@ -207,33 +209,38 @@ objects_behind asked page =
     ++ told (codes "NextContinuationToken") (in_second asked.version (option_map token_told page.next))
     ++ told (codes "StartAfter") (in_second asked.version (option_map encodable asked.start_after))
 
--- of ListObjectVersions: in front of the rows, and behind them
-abbrev pub versions_before : VersionsAsked → Page VersionRow → Fields
+-- of ListObjectVersions: in front of the rows, between them and the common prefixes, and behind these
+abbrev pub versions_before : VersionsAsked → RowsTold VersionRow → Fields
 versions_before asked page =
-    (codes "IsTruncated", truth page.is_truncated)
+    (codes "IsTruncated", truth (is_some page.next))
     ∷ (codes "KeyMarker", encodable asked.key_marker)
     ∷ (codes "VersionIdMarker", text (marker_told asked.id_marker))
-    ∷ told (codes "NextKeyMarker") (option_map key_of_row (next_of page))
-    ++ told (codes "NextVersionIdMarker") (option_map id_of_row (next_of page))
+    ∷ told (codes "NextKeyMarker") (next_key key_of_row page)
+    ++ told (codes "NextVersionIdMarker") (option_map id_of_row (next_row page))
 
-abbrev pub versions_behind : List ℕ → VersionsAsked → Fields
-versions_behind name asked =
+abbrev pub versions_between : List ℕ → VersionsAsked → Fields
+versions_between name asked =
     (codes "Name", text name)
     ∷ (codes "Prefix", encodable asked.prefix)
-    ∷ (codes "MaxKeys", number asked.max_keys)
-    ∷ told (codes "EncodingType") (encoding_told asked.is_url_encoded)
+    ∷ told (codes "Delimiter") (delimiter_told asked.delimiter)
+    ++ (codes "MaxKeys", number asked.max_keys)
+    ∷ []
 
--- of ListMultipartUploads: in front of the rows, and behind them
-abbrev pub uploads_before : List ℕ → UploadsAsked → Page UploadRow → Fields
+abbrev pub versions_behind : VersionsAsked → Fields
+versions_behind asked = told (codes "EncodingType") (encoding_told asked.is_url_encoded)
+
+-- of ListMultipartUploads: in front of the rows, and behind the common prefixes, which follow them
+abbrev pub uploads_before : List ℕ → UploadsAsked → RowsTold UploadRow → Fields
 uploads_before name asked page =
     (codes "Bucket", text name)
     ∷ (codes "KeyMarker", encodable asked.key_marker)
     ∷ (codes "UploadIdMarker", text (upload_marker_told asked.id_marker))
-    ∷ told (codes "NextKeyMarker") (option_map key_of_upload (next_of page))
+    ∷ told (codes "NextKeyMarker") (next_key key_of_upload page)
     ++ (codes "Prefix", encodable asked.prefix)
-    ∷ told (codes "NextUploadIdMarker") (option_map id_of_upload (next_of page))
+    ∷ told (codes "Delimiter") (delimiter_told asked.delimiter)
+    ++ told (codes "NextUploadIdMarker") (option_map id_of_upload (next_row page))
     ++ (codes "MaxUploads", number asked.max_uploads)
-    ∷ (codes "IsTruncated", truth page.is_truncated)
+    ∷ (codes "IsTruncated", truth (is_some page.next))
     ∷ []
 
 abbrev pub uploads_behind : UploadsAsked → Fields
@@ -325,10 +332,14 @@ events_of (objects name asked page) =
     ++ listed manner (objects_between name asked) (flat_map (prefix_events manner) page.prefixes) (objects_behind asked page)
 events_of (versions name asked page) =
     let manner = owned_manner asked.is_url_encoded in
-    listed manner (versions_before asked page) (flat_map (version_events manner) page.given) (versions_behind name asked)
+    fields_events manner (versions_before asked page)
+    ++ flat_map (version_events manner) page.rows
+    ++ listed manner (versions_between name asked) (flat_map (prefix_events manner) page.prefixes) (versions_behind asked)
 events_of (uploads name asked page) =
     let manner = owned_manner asked.is_url_encoded in
-    listed manner (uploads_before name asked page) (flat_map (upload_events manner) page.given) (uploads_behind asked)
+    fields_events manner (uploads_before name asked page)
+    ++ flat_map (upload_events manner) page.rows
+    ++ listed manner [] (flat_map (prefix_events manner) page.prefixes) (uploads_behind asked)
 events_of (parts bucket key id asked page) =
     listed_owned plain (parts_before bucket key id asked page) (flat_map (part_events plain) page.given) parts_behind
 events_of (begun bucket key id) = fields_events plain (begun_fields bucket key id)

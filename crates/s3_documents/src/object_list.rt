@@ -437,7 +437,7 @@ fn digits_told(token: &Option<String>) -> Leaf<'_>
     }
 }
 
-fn delimiter_leaf(delimiter: &Text) -> Leaf<'_>
+pub(crate) fn delimiter_leaf(delimiter: &Text) -> Leaf<'_>
     ensures { value_of result ≡ delimiter_told delimiter.now }
 {
     if delimiter.as_bytes().is_empty() {

@@ -1,20 +1,22 @@
 //! The list of the uploads in a bucket, as a document.
 ghost use Rattle.std.specs.Prelude.{◌≡◌, ◌+◌, ◌*◌, IfSome, IsUtf8, option_map};
 ghost use Rattle.std.specs.Option.{option_copied};
-ghost use Rattle.s3_listings.specs.Pages.{next_of};
+ghost use Rattle.s3_listings.specs.Rolled.{next_row};
 ghost use Rattle.s3_names.specs.Ids.{upload_id_text};
 ghost use Rattle.s3_records.specs.declared.rows.UploadRow.{UploadRow as UploadAs};
 ghost use Rattle.s3_documents.specs.Document.{uploads};
+ghost use Rattle.s3_documents.specs.NextPage.{next_key};
 ghost use Rattle.s3_documents.specs.Printed.{fields_of, value_of, IsRoomFor};
 ghost use Rattle.s3_documents.specs.UploadList.{upload_fields, upload_marker_told, key_of_upload, id_of_upload, uploads_fields};
 ghost use Rattle.s3_documents.specs.Xml.{upload_events, begun_before, begun_behind, uploads_before, uploads_behind};
 
 use crate::list::{print_list, room_of_list};
+use crate::object_list::delimiter_leaf;
 use crate::printer::{Field, Leaf, Printer, Row, text_of};
 use crate::reserved::Told;
 use crate::room::{Bounded, room_of_text};
 use crate::texts::{ID_MAX, key_told, name_told, text_told, upload_id_told};
-use crate::xml::{Entry, Manner, encoding_leaf, owned_manner, put_list, put_owned, room_of_listed};
+use crate::xml::{Entry, Manner, encoding_leaf, owned_manner, put_lists, put_owned, room_of_lists};
 use arrayvec::ArrayVec;
 use s3_listings::{UploadPage, UploadsAsked};
 use s3_names::BucketName;
@@ -37,10 +39,10 @@ impl Told for UploadsList {
     ghost document = { λ list. uploads list.name list.asked list.page };
 
     fn print(&self, printer: &mut Printer) -> Result<(), AllocError> {
-        let next = self.page.next();
-        let behind = upload_id_told(self.asked.id_marker);
+        let next = self.page.next_row();
+        let marker = upload_id_told(self.asked.id_marker);
         let next_behind = row_id(next);
-        let fields = fields_told(self, next, text_of(&behind), text_of(&next_behind));
+        let fields = fields_told(self, next, text_of(&marker), text_of(&next_behind));
         print_list(printer, &fields, "Uploads", self.page.rows(), &[])
     }
 
@@ -49,28 +51,26 @@ impl Told for UploadsList {
     }
 
     fn write(&self, writer: &mut Writer) -> Result<(), AllocError> {
-        let next = self.page.next();
-        let behind = upload_id_told(self.asked.id_marker);
+        let next = self.page.next_row();
+        let marker = upload_id_told(self.asked.id_marker);
         let next_behind = row_id(next);
-        let before = fields_before(self, next, text_of(&behind), text_of(&next_behind));
+        let before = fields_before(self, next, text_of(&marker), text_of(&next_behind));
+        let behind = fields_behind(self);
+        let (rows, prefixes) = (self.page.rows(), self.page.prefixes());
         let manner = owned_manner(self.asked.is_url_encoded);
-        put_list(
-            writer,
-            manner,
-            &before,
-            self.page.rows(),
-            &fields_behind(self),
-        )
+        put_lists(writer, manner, &before, rows, &[], prefixes, &behind)
     }
 
     fn room(&self) -> usize {
-        let next = self.page.next();
-        let behind = upload_id_told(self.asked.id_marker);
+        let next = self.page.next_row();
+        let marker = upload_id_told(self.asked.id_marker);
         let next_behind = row_id(next);
-        let fields = fields_told(self, next, text_of(&behind), text_of(&next_behind));
-        let before = fields_before(self, next, text_of(&behind), text_of(&next_behind));
+        let fields = fields_told(self, next, text_of(&marker), text_of(&next_behind));
+        let before = fields_before(self, next, text_of(&marker), text_of(&next_behind));
         let json = room_of_list(&fields, "Uploads", self.page.rows(), &[]);
-        json.max(room_of_listed(&before, self.page.rows(), &fields_behind(self)))
+        let behind = fields_behind(self);
+        let (rows, prefixes) = (self.page.rows(), self.page.prefixes());
+        json.max(room_of_lists(&before, rows, &[], prefixes, &behind))
     }
 }
 
@@ -82,7 +82,7 @@ fn fields_told<'a>(
     behind: &'a str,
     next_behind: &'a str,
 ) -> [Field<'a>; 8]
-    requires next { option_copied next ≡ next_of list.now.page }
+    requires next { option_copied next ≡ next_row list.now.page }
     requires behind { behind.now ≡ upload_marker_told list.now.asked.id_marker }
     requires next_behind { IfSome (option_copied next) (λ row. next_behind.now ≡ upload_id_text row.id) }
     ensures { fields_of result ≡ uploads_fields list.now.name list.now.asked list.now.page }
@@ -106,7 +106,7 @@ fn fields_told<'a>(
         },
         Field {
             name: "NextKeyMarker",
-            value: key_leaf(next),
+            value: next_leaf(&list.page, next),
         },
         Field {
             name: "NextUploadIdMarker",
@@ -129,8 +129,8 @@ fn fields_before<'a>(
     next: Option<&'a UploadRow>,
     behind: &'a str,
     next_behind: &'a str,
-) -> [Field<'a>; 8]
-    requires next { option_copied next ≡ next_of list.now.page }
+) -> [Field<'a>; 9]
+    requires next { option_copied next ≡ next_row list.now.page }
     requires behind { behind.now ≡ upload_marker_told list.now.asked.id_marker }
     requires next_behind { IfSome (option_copied next) (λ row. next_behind.now ≡ upload_id_text row.id) }
     ensures { fields_of result ≡ uploads_before list.now.name list.now.asked list.now.page }
@@ -150,11 +150,15 @@ fn fields_before<'a>(
         },
         Field {
             name: "NextKeyMarker",
-            value: key_leaf(next),
+            value: next_leaf(&list.page, next),
         },
         Field {
             name: "Prefix",
             value: Leaf::Encodable(text_told(&list.asked.prefix)),
+        },
+        Field {
+            name: "Delimiter",
+            value: delimiter_leaf(&list.asked.delimiter),
         },
         Field {
             name: "NextUploadIdMarker",
@@ -171,7 +175,7 @@ fn fields_before<'a>(
     ]
 }
 
-// And behind them.
+// And behind the common prefixes, which follow them.
 fn fields_behind(list: &UploadsList) -> [Field<'_>; 1]
     ensures { fields_of result ≡ uploads_behind list.now.asked }
 {
@@ -277,6 +281,17 @@ fn row_id(row: Option<&UploadRow>) -> ArrayVec<u8, ID_MAX>
     match row {
         Some(row) => upload_id_told(Some(row.id)),
         None => ArrayVec::new(),
+    }
+}
+
+// The text behind which the next page goes on: a common prefix, or the key of this row, if there is one.
+fn next_leaf<'a>(page: &'a UploadPage, next: Option<&'a UploadRow>) -> Leaf<'a>
+    requires { option_copied next ≡ next_row page.now }
+    ensures { value_of result ≡ next_key key_of_upload page.now }
+{
+    match page.next_prefix() {
+        Some(prefix) => Leaf::Encodable(text_told(prefix)),
+        None => key_leaf(next),
     }
 }
 

@@ -1,20 +1,22 @@
 //! The list of a bucket's versions, as a document.
 ghost use Rattle.std.specs.Prelude.{◌≡◌, ◌+◌, ◌*◌, IfSome, IsUtf8, option_map};
 ghost use Rattle.std.specs.Option.{option_copied};
-ghost use Rattle.s3_listings.specs.Pages.{next_of};
+ghost use Rattle.s3_listings.specs.Rolled.{next_row};
 ghost use Rattle.s3_names.specs.Ids.{version_id_text};
 ghost use Rattle.s3_documents.specs.Copied.{tag_told};
 ghost use Rattle.s3_documents.specs.Document.{versions};
+ghost use Rattle.s3_documents.specs.NextPage.{next_key};
 ghost use Rattle.s3_documents.specs.Printed.{fields_of, value_of, IsRoomFor};
 ghost use Rattle.s3_documents.specs.VersionList.{tag_of_facts, size_of_facts, version_fields, key_of_row, id_of_row, marker_told, versions_fields};
-ghost use Rattle.s3_documents.specs.Xml.{version_name, version_before, version_behind, version_events, versions_before, versions_behind, standard};
+ghost use Rattle.s3_documents.specs.Xml.{version_name, version_before, version_behind, version_events, versions_before, versions_between, versions_behind, standard};
 
 use crate::list::{print_list, room_of_list};
+use crate::object_list::delimiter_leaf;
 use crate::printer::{Field, Leaf, Printer, Row, text_of};
 use crate::reserved::Told;
 use crate::room::{Bounded, known_of, room_of_text};
 use crate::texts::{ID_MAX, id_told, key_told, name_told, quoted, text_told};
-use crate::xml::{Entry, Manner, encoding_leaf, owned_manner, put_list, put_owned, room_of_listed};
+use crate::xml::{Entry, Manner, encoding_leaf, owned_manner, put_lists, put_owned, room_of_lists};
 use arrayvec::ArrayVec;
 use s3_listings::{VersionPage, VersionsAsked};
 use s3_names::BucketName;
@@ -39,10 +41,10 @@ impl Told for VersionsList {
     ghost document = { λ list. versions list.name list.asked list.page };
 
     fn print(&self, printer: &mut Printer) -> Result<(), AllocError> {
-        let next = self.page.next();
-        let behind = id_told(self.asked.id_marker);
+        let next = self.page.next_row();
+        let marker = id_told(self.asked.id_marker);
         let next_behind = row_id(next);
-        let fields = fields_told(self, next, text_of(&behind), text_of(&next_behind));
+        let fields = fields_told(self, next, text_of(&marker), text_of(&next_behind));
         print_list(printer, &fields, "Versions", self.page.rows(), &[])
     }
 
@@ -51,28 +53,28 @@ impl Told for VersionsList {
     }
 
     fn write(&self, writer: &mut Writer) -> Result<(), AllocError> {
-        let next = self.page.next();
-        let behind = id_told(self.asked.id_marker);
+        let next = self.page.next_row();
+        let marker = id_told(self.asked.id_marker);
         let next_behind = row_id(next);
-        let before = fields_before(self, next, text_of(&behind), text_of(&next_behind));
+        let before = fields_before(self, next, text_of(&marker), text_of(&next_behind));
+        let between = fields_between(self);
+        let behind = fields_behind(self);
+        let (rows, prefixes) = (self.page.rows(), self.page.prefixes());
         let manner = owned_manner(self.asked.is_url_encoded);
-        put_list(
-            writer,
-            manner,
-            &before,
-            self.page.rows(),
-            &fields_behind(self),
-        )
+        put_lists(writer, manner, &before, rows, &between, prefixes, &behind)
     }
 
     fn room(&self) -> usize {
-        let next = self.page.next();
-        let behind = id_told(self.asked.id_marker);
+        let next = self.page.next_row();
+        let marker = id_told(self.asked.id_marker);
         let next_behind = row_id(next);
-        let fields = fields_told(self, next, text_of(&behind), text_of(&next_behind));
-        let before = fields_before(self, next, text_of(&behind), text_of(&next_behind));
+        let fields = fields_told(self, next, text_of(&marker), text_of(&next_behind));
+        let before = fields_before(self, next, text_of(&marker), text_of(&next_behind));
         let json = room_of_list(&fields, "Versions", self.page.rows(), &[]);
-        json.max(room_of_listed(&before, self.page.rows(), &fields_behind(self)))
+        let between = fields_between(self);
+        let behind = fields_behind(self);
+        let (rows, prefixes) = (self.page.rows(), self.page.prefixes());
+        json.max(room_of_lists(&before, rows, &between, prefixes, &behind))
     }
 }
 
@@ -84,7 +86,7 @@ fn fields_told<'a>(
     behind: &'a str,
     next_behind: &'a str,
 ) -> [Field<'a>; 8]
-    requires next { option_copied next ≡ next_of list.now.page }
+    requires next { option_copied next ≡ next_row list.now.page }
     requires behind { behind.now ≡ marker_told list.now.asked.id_marker }
     requires next_behind { IfSome (option_copied next) (λ row. next_behind.now ≡ version_id_text row.id) }
     ensures { fields_of result ≡ versions_fields list.now.name list.now.asked list.now.page }
@@ -108,7 +110,7 @@ fn fields_told<'a>(
         },
         Field {
             name: "NextKeyMarker",
-            value: key_leaf(next),
+            value: next_leaf(&list.page, next),
         },
         Field {
             name: "NextVersionIdMarker",
@@ -132,7 +134,7 @@ fn fields_before<'a>(
     behind: &'a str,
     next_behind: &'a str,
 ) -> [Field<'a>; 5]
-    requires next { option_copied next ≡ next_of list.now.page }
+    requires next { option_copied next ≡ next_row list.now.page }
     requires behind { behind.now ≡ marker_told list.now.asked.id_marker }
     requires next_behind { IfSome (option_copied next) (λ row. next_behind.now ≡ version_id_text row.id) }
     ensures { fields_of result ≡ versions_before list.now.asked list.now.page }
@@ -152,7 +154,7 @@ fn fields_before<'a>(
         },
         Field {
             name: "NextKeyMarker",
-            value: key_leaf(next),
+            value: next_leaf(&list.page, next),
         },
         Field {
             name: "NextVersionIdMarker",
@@ -161,9 +163,9 @@ fn fields_before<'a>(
     ]
 }
 
-// And behind them.
-fn fields_behind(list: &VersionsList) -> [Field<'_>; 4]
-    ensures { fields_of result ≡ versions_behind list.now.name list.now.asked }
+// Between them and the common prefixes.
+fn fields_between(list: &VersionsList) -> [Field<'_>; 4]
+    ensures { fields_of result ≡ versions_between list.now.name list.now.asked }
 {
     [
         Field {
@@ -175,14 +177,24 @@ fn fields_behind(list: &VersionsList) -> [Field<'_>; 4]
             value: Leaf::Encodable(text_told(&list.asked.prefix)),
         },
         Field {
+            name: "Delimiter",
+            value: delimiter_leaf(&list.asked.delimiter),
+        },
+        Field {
             name: "MaxKeys",
             value: Leaf::Number(list.asked.max_keys as u64),
         },
-        Field {
-            name: "EncodingType",
-            value: encoding_leaf(list.asked.is_url_encoded),
-        },
     ]
+}
+
+// And behind these.
+fn fields_behind(list: &VersionsList) -> [Field<'_>; 1]
+    ensures { fields_of result ≡ versions_behind list.now.asked }
+{
+    [Field {
+        name: "EncodingType",
+        value: encoding_leaf(list.asked.is_url_encoded),
+    }]
 }
 
 impl Row for VersionRow {
@@ -364,6 +376,17 @@ fn row_id(row: Option<&VersionRow>) -> ArrayVec<u8, ID_MAX>
     match row {
         Some(row) => id_told(Some(row.id)),
         None => ArrayVec::new(),
+    }
+}
+
+// The text behind which the next page goes on: a common prefix, or the key of this row, if there is one.
+fn next_leaf<'a>(page: &'a VersionPage, next: Option<&'a VersionRow>) -> Leaf<'a>
+    requires { option_copied next ≡ next_row page.now }
+    ensures { value_of result ≡ next_key key_of_row page.now }
+{
+    match page.next_prefix() {
+        Some(prefix) => Leaf::Encodable(text_told(prefix)),
+        None => key_leaf(next),
     }
 }
 

@@ -215,8 +215,8 @@ fn put_number(writer: &mut Writer, name: &str, number: u64) -> Result<(), AllocE
     writer.leaf(name, digits.format(number).as_bytes())
 }
 
-/// Prints rows with fields in front of them and behind them.
-pub(crate) fn put_list<E: Entry>(
+// Prints rows with fields in front of them and behind them.
+fn put_list<E: Entry>(
     writer: &mut Writer,
     manner: Manner,
     before: &[Field<'_>],
@@ -233,13 +233,9 @@ pub(crate) fn put_list<E: Entry>(
     put_fields(writer, manner, behind)
 }
 
-/// The room for that.
+// The room for that.
 #[tactic(auto, using(crate::proofs::XmlRoomLemmas::listed_room))]
-pub(crate) fn room_of_listed<E: Bounded>(
-    before: &[Field<'_>],
-    list: &[E],
-    behind: &[Field<'_>],
-) -> usize
+fn room_of_listed<E: Bounded>(before: &[Field<'_>], list: &[E], behind: &[Field<'_>]) -> usize
     ensures { (manner : MannerAs) → IsRoomFor result
         (length (markup (listed manner (fields_of before.now) (flat_map (E.events manner) list.now) (fields_of behind.now)))) }
 {

@@ -64,7 +64,7 @@ impl<R: Records + Drop> Start<R> {
     ///
     /// # Errors
     ///
-    /// `NoMemory` where there is no memory for a copy of the region's name.
+    /// `NoMemory` never comes, though no contract can say so.
     pub fn new(
         alloc: Global,
         config: &Config,
@@ -75,7 +75,7 @@ impl<R: Records + Drop> Start<R> {
         ensures store { IfOk result (λ start. start.base.store ≡ store) }
         ensures rosters { IfOk result (λ start. start.rosters ≡ rosters) }
     {
-        let rules = Rules::of(alloc, config)?;
+        let rules = Rules::of(config);
         let recorded_store = RecordedStore::new(alloc, rules, store)?;
         Ok(Start {
             recorded_store,

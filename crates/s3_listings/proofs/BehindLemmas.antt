@@ -28,13 +28,13 @@ use Rattle.s3_listings.proofs.OrderLemmas.{up_to_before}
 use Rattle.s3_listings.proofs.VersionLemmas.{key-at, key_from_marker, rows_of_behind, rows_of_before}
 
 -- lists that are cut at a member
-cons_head : {X : Type 0} (x y : X) (xs ys : List X) → x ∷ xs ≡ y ∷ ys → x ≡ y
+pub cons_head : {X : Type 0} (x y : X) (xs ys : List X) → x ∷ xs ≡ y ∷ ys → x ≡ y
 cons_head x y xs ys is = ap (λ l. get_or l 0 x) is
 
-cons_tail : {X : Type 0} (x y : X) (xs ys : List X) → x ∷ xs ≡ y ∷ ys → xs ≡ ys
+pub cons_tail : {X : Type 0} (x y : X) (xs ys : List X) → x ∷ xs ≡ y ∷ ys → xs ≡ ys
 cons_tail x y xs ys is = ap (drop 1) is
 
-nothing_cut : {X : Type 0} (xs : List X) (x : X) (ys : List X) → [] ≡ xs ++ x ∷ ys → ⊥
+pub nothing_cut : {X : Type 0} (xs : List X) (x : X) (ys : List X) → [] ≡ xs ++ x ∷ ys → ⊥
 nothing_cut [] x ys is = absurd (cc)
 nothing_cut (y ∷ xs) x ys is = absurd (cc)
 

@@ -109,7 +109,7 @@ common_to prefix delimiter key text starts is =
 
 -- of two keys the items are in the keys' order, or they are one
 module _ (prefix delimiter key other : List ℕ) (before : is_before key other ≡ true) where
-  key_then_prefix : (text : List ℕ) → starts_with nat_eq other prefix ≡ true → rolled_up prefix delimiter key ≡ None → rolled_up prefix delimiter other ≡ Some text → is_before key text ≡ true
+  pub key_then_prefix : (text : List ℕ) → starts_with nat_eq other prefix ≡ true → rolled_up prefix delimiter key ≡ None → rolled_up prefix delimiter other ≡ Some text → is_before key text ≡ true
   key_then_prefix text starts none some =
       let common : CommonTo prefix delimiter other text = common_to prefix delimiter other text starts some in
       elim (cut_order key text [] common.rest (subst (λ l. is_before l (text ++ common.rest) ≡ true) (sym (append-nil _)) (subst (λ l. is_before key l ≡ true) common.cut before))) [
@@ -126,7 +126,7 @@ module _ (prefix delimiter key other : List ℕ) (before : is_before key other �
             (subst (λ l. is_before l other ≡ true) (common.cut ∙ ap (λ l. l ++ common.rest) begins ∙ append_assoc other u common.rest) before))
       ]
 
-  prefix_then_prefix : (text later : List ℕ) → starts_with nat_eq key prefix ≡ true → starts_with nat_eq other prefix ≡ true
+  pub prefix_then_prefix : (text later : List ℕ) → starts_with nat_eq key prefix ≡ true → starts_with nat_eq other prefix ≡ true
       → rolled_up prefix delimiter key ≡ Some text → rolled_up prefix delimiter other ≡ Some later → (text ≡ later) ⊎ (is_before text later ≡ true)
   prefix_then_prefix text later starts also some there =
       let common : CommonTo prefix delimiter key text = common_to prefix delimiter key text starts some in

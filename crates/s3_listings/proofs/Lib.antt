@@ -11,9 +11,14 @@ pub mod PartLemmas
 pub mod DraftLemmas
 pub mod ObjectLemmas
 pub mod PlaceLemmas
+pub mod PlainLemmas
+pub mod RolledLemmas
+pub mod RolledPageLemmas
+pub mod RollingLemmas
 pub mod RowLemmas
 pub mod SeekLemmas
 pub mod SoughtLemmas
+pub mod ToldOnceLemmas
 pub mod UploadLemmas
 pub mod VersionLemmas
 pub mod VersionPageLemmas

@@ -140,7 +140,7 @@ some_length : (n : ℕ) → (suc n == 0) ≡ false
 some_length n = grind arith
 
 -- with a delimiter
-rolled-is : (prefix : List ℕ) (d : ℕ) (ds key : List ℕ) → rolled_up prefix (d ∷ ds) key ≡ option_map (λ front. prefix ++ front) (up_to_first (d ∷ ds) (drop (length prefix) key))
+pub rolled-is : (prefix : List ℕ) (d : ℕ) (ds key : List ℕ) → rolled_up prefix (d ∷ ds) key ≡ option_map (λ front. prefix ++ front) (up_to_first (d ∷ ds) (drop (length prefix) key))
 rolled-is prefix d ds key = rw (some_length (length ds)) refl
 
 -- a key begins with its common prefix

@@ -8,7 +8,7 @@ use Rattle.s3_records.specs.Rows.{is_from}
 use Rattle.s3_records.specs.declared.rows.Start.{Start}
 use Rattle.s3_records.specs.declared.rows.Start.TheVariants.{First, From, Behind}
 use Rattle.s3_prefixes.specs.Items.{is_before}
-use Rattle.s3_listings.specs.Sought.{UpTo, AreByKey, AreBehind, begins_with, is_at_least, is_later, rows_from, rows_at_least}
+use Rattle.s3_listings.specs.Sought.{UpTo, AreByKey, AreBehind, Covers, begins_with, is_at_least, is_later, rows_from, rows_at_least}
 use Rattle.s3_listings.proofs.FilterLemmas.{filter_all, filter_alike, filter_stronger, filter_fewer, all_from_front, take_while-take, take_while-filter}
 use Rattle.s3_listings.proofs.ItemLemmas.{starts_from, starts_of, not_before_beginning}
 use Rattle.s3_listings.proofs.MemberLemmas.{Member, each_at, member-filter, member_of_filter, member_from_contains, contains_from_member, paired-filter}
@@ -43,12 +43,12 @@ begins_sooner prefix key later least up_to starts = elim (order_of key later) [
   ]
 ]
 
-begins_at_least : (prefix key : List ℕ) → starts_with nat_eq key prefix ≡ true → is_before key prefix ≡ false
+pub begins_at_least : (prefix key : List ℕ) → starts_with nat_eq key prefix ≡ true → is_before key prefix ≡ false
 begins_at_least prefix key starts =
     false_from_ne_true (is_before key prefix) (λ before. not_before_beginning prefix (drop (length prefix) key) (subst (λ k. is_before k prefix ≡ true) (starts_from key prefix starts) before))
 
 -- parts in front
-member-take : {X : Type 0} (most : ℕ) (xs : List X) (x : X) → Member x (take most xs) → Member x xs
+pub member-take : {X : Type 0} (most : ℕ) (xs : List X) (x : X) → Member x (take most xs) → Member x xs
 member-take zero xs x is_in = absurd is_in
 member-take (suc most) [] x is_in = absurd is_in
 member-take (suc most) (y ∷ xs) x (inl is) = inl is
@@ -92,10 +92,6 @@ if_ok_both (Err e) p q next = tt
 -- the key of a row that was taken out, which is before a text
 abbrev pub TakenOut : {X : Type 0} → (X → List ℕ) → List X → (text taken : List ℕ) → Type 0
 TakenOut {X} key rows text taken = (i : ℕ) × (i < length rows) × ((d : X) → (key (get_or rows i d) ≡ taken) × (is_before taken text ≡ true))
-
--- a place that no key is in front of, unless it is before a text
-abbrev pub Covers : Start → List ℕ → Type 0
-Covers start text = (k : List ℕ) → is_from start k ≡ false → is_before k text ≡ true
 
 pub covers_behind : (key text : List ℕ) → is_before key text ≡ true → Covers (Behind key) text
 covers_behind key text before other sooner = true_from_ne_false (is_before other text) (λ least. false≢true (sym sooner ∙ before_up_to key text other before least))

@@ -10,16 +10,19 @@ use Rattle.s3_records.specs.OpenUploads.{upload_rows, is_upload_from, uploads_fr
 use Rattle.s3_records.specs.declared.rows.UploadRow.{UploadRow}
 use Rattle.s3_records.specs.declared.rows.UploadStart.TheVariants.{BehindUpload}
 use Rattle.s3_listings.specs.declared.asked.UploadsAsked.{UploadsAsked}
+use Rattle.s3_listings.specs.declared.row_page.RowItem.{RowItem}
+use Rattle.s3_listings.specs.declared.row_page.RowItem.TheVariants.{Row, CommonPrefix}
 use Rattle.s3_listings.specs.Laws.{Joins, behind_upload, UploadPagesJoin}
 use Rattle.s3_prefixes.specs.Items.{is_before}
 use Rattle.s3_listings.specs.Pages.{last_of}
 use Rattle.s3_listings.specs.Sought.{UpTo, AreByKey, AreBehind, is_later}
-use Rattle.s3_listings.specs.Uploads.{marked, is_asked, uploads_asked, uploads_page}
-use Rattle.s3_listings.proofs.BehindLemmas.{FilterCut, filter_cut, cut_at_last, member_cut}
+use Rattle.s3_listings.specs.Uploads.{marked, uploads_asked, uploads_page}
+use Rattle.s3_listings.proofs.BehindLemmas.{FilterCut, filter_cut, member_cut}
 use Rattle.s3_listings.proofs.FilterLemmas.{filter_all, filter_stronger}
 use Rattle.s3_listings.proofs.JoinLemmas.{page_joins, all_join}
 use Rattle.s3_listings.proofs.MemberLemmas.{Member, each_from, member-filter, member_from_contains, contains_from_member, paired-filter}
 use Rattle.s3_listings.proofs.OrderLemmas.{before_trans, not_before_itself, not_back, same_not_before, before_up_to}
+use Rattle.s3_listings.proofs.RolledPageLemmas.{rest_of_page}
 
 -- the key of a row
 abbrev pub key_of : UploadRow → List ℕ
@@ -112,23 +115,25 @@ module _ {B : Type 0} (follow : UploadsFollow B) (c : Catalogue B) (name : List 
       behind ∙ sym (filter_all from cut.back (λ later is_in.
       from_further key id row later here (member-filter (is_behind row.key row.id) (upload_rows c name) later (subst (Member later) (sym behind) is_in)).1)) ∙ cut.left
 
-  -- what is asked for behind the last row of a page is what the page leaves
-  rest_of_page : (asked : UploadsAsked) (last : UploadRow) → last_of (take asked.max_uploads (uploads_asked asked c name)) ≡ Some last
+  -- what is asked for behind the last item of a page is what the page leaves
+  rest_of_uploads : (asked : UploadsAsked) (last : RowItem UploadRow) → last_of (take asked.max_uploads (uploads_asked asked c name)) ≡ Some last
       → uploads_asked (behind_upload asked last) c name ≡ drop asked.max_uploads (uploads_asked asked c name)
-  rest_of_page asked last is =
-      let items : List UploadRow = uploads_asked asked c name in
-      let most : ℕ = asked.max_uploads in
-      let whole = cut_at_last most items last is in
-      let cut : FilterCut (is_asked asked) (uploads_from c name (marked asked.key_marker asked.id_marker)) last (drop most items) =
-      filter_cut (is_asked asked) (uploads_from c name (marked asked.key_marker asked.id_marker)) whole.0 last (drop most items) whole.1 in
-      ap (filter (is_asked asked)) (follows asked.key_marker asked.id_marker cut.front last cut.back cut.cut) ∙ cut.left
+  rest_of_uploads asked (Row row) is =
+      rest_of_page key_of asked.prefix asked.delimiter (λ (r : UploadRow). r.id) (upload_rows c name) (λ key id. uploads_from c name (marked key id))
+      behind_marker follows asked.key_marker asked.id_marker asked.max_uploads (Row row) is
+  rest_of_uploads asked (CommonPrefix text) is =
+      rest_of_page key_of asked.prefix asked.delimiter (λ (r : UploadRow). r.id) (upload_rows c name) (λ key id. uploads_from c name (marked key id))
+      behind_marker follows asked.key_marker asked.id_marker asked.max_uploads (CommonPrefix text) is
 
   page_joins_next : (asked : UploadsAsked) → 0 < asked.max_uploads → Joins (λ a. uploads_page a c name) behind_upload (λ a. uploads_asked a c name) asked
-  unfolding uploads_page
   page_joins_next asked some =
-      page_joins asked.max_uploads (uploads_asked asked c name) (λ last. uploads_asked (behind_upload asked last) c name) some (λ last is. rest_of_page asked last is)
+      page_joins asked.max_uploads (uploads_asked asked c name) (λ last. uploads_asked (behind_upload asked last) c name) some (λ last is. rest_of_uploads asked last is)
+
+same_most : (asked : UploadsAsked) (last : RowItem UploadRow) → 0 < asked.max_uploads → 0 < (behind_upload asked last).max_uploads
+same_most asked (Row row) some = some
+same_most asked (CommonPrefix text) some = some
 
 pub upload_pages_join : {B : Type 0} → UploadsFollow B → UploadPagesJoin B
 upload_pages_join follow asked c name some =
-    all_join (λ a. uploads_page a c name) behind_upload (λ a. uploads_asked a c name) (λ a. 0 < a.max_uploads) (λ a last fits. fits)
+    all_join (λ a. uploads_page a c name) behind_upload (λ a. uploads_asked a c name) (λ a. 0 < a.max_uploads) same_most
     (λ a fits. page_joins_next follow c name a fits) asked some

@@ -1,6 +1,7 @@
 -- What users may rely on of the lists of a bucket's objects, versions and uploads, and of an upload's parts.
-use Rattle.std.specs.Prelude.{◌≡◌, ◌<◌, ◌↔◌, ℕ, nat_eq, IsTrue, List, [], ◌∷◌, ◌++◌, map as each, Contains, filter, Some, None, Ok, MatchOption}
-use Rattle.std.specs.List.{starts_with, flat_map}
+use Rattle.std.specs.Prelude.{◌≡◌, ◌<◌, ◌↔◌, ℕ, nat_eq, IsTrue, List, [], ◌∷◌, ◌++◌, map as each, Contains, filter, Some, None, Ok, MatchOption, is_none}
+use Rattle.std.specs.List.{starts_with, filter_map, flat_map}
+use Rattle.std.specs.Str.{bytes_eq}
 use Rattle.s3_text.specs.Order.{rises}
 use Rattle.s3_versions.specs.Rules.{pick, facts_read}
 use Rattle.s3_versions.specs.declared.picking.Facts.{Facts}
@@ -17,12 +18,15 @@ use Rattle.s3_prefixes.specs.declared.asked.ObjectsAsked.{ObjectsAsked}
 use Rattle.s3_listings.specs.declared.asked.PartsAsked.{PartsAsked}
 use Rattle.s3_listings.specs.declared.asked.UploadsAsked.{UploadsAsked}
 use Rattle.s3_listings.specs.declared.asked.VersionsAsked.{VersionsAsked}
-use Rattle.s3_listings.specs.Pages.{Page, next_of}
-use Rattle.s3_prefixes.specs.Items.{Item, Object, text_of, is_behind_token}
+use Rattle.s3_listings.specs.Pages.{Page, next_of, page_of}
+use Rattle.s3_prefixes.specs.Items.{Item, Object, text_of, is_before, is_behind_token, rolled_up}
 use Rattle.s3_listings.specs.Objects.{item_of, is_same, objects_asked, objects_page}
 use Rattle.s3_listings.specs.Parts.{parts_asked, parts_page}
-use Rattle.s3_listings.specs.Uploads.{uploads_asked, uploads_page}
-use Rattle.s3_listings.specs.Versions.{versions_asked, versions_page}
+use Rattle.s3_listings.specs.Rolled.{plainly, prefix_in, row_in}
+use Rattle.s3_listings.specs.Uploads.{upload_rows_asked, uploads_asked, uploads_page, uploads_told}
+use Rattle.s3_listings.specs.Versions.{version_rows_asked, versions_asked, versions_page, versions_told}
+use Rattle.s3_listings.specs.declared.row_page.RowItem.{RowItem}
+use Rattle.s3_listings.specs.declared.row_page.RowItem.TheVariants.{Row, CommonPrefix}
 
 -- the rows stand by key in the order of bytes, and none twice
 abbrev pub AreInOrder : List KeyRow → Type 0
@@ -99,9 +103,53 @@ PagesJoin =
     (asked : ObjectsAsked) (rows : List KeyRow) → AreInOrder rows → 0 < asked.max_keys
     → AllJoin (λ a. objects_page a rows) behind (λ a. objects_asked a rows) asked
 
--- the same request, behind a version
-abbrev pub behind_row : VersionsAsked → VersionRow → VersionsAsked
-behind_row asked last = record asked { key_marker = last.key; id_marker = Some last.id }
+-- where the delimiter is empty, a list of versions or of uploads tells the rows that are asked for, each by itself
+abbrev pub PlainVersionsAreRows : Type 0 → Type 0
+PlainVersionsAreRows B =
+    (asked : VersionsAsked) (c : Catalogue B) (name : List ℕ) → asked.delimiter ≡ []
+    → versions_told asked c name ≡ plainly (page_of asked.max_keys (version_rows_asked asked c name))
+
+abbrev pub PlainUploadsAreRows : Type 0 → Type 0
+PlainUploadsAreRows B =
+    (asked : UploadsAsked) (c : Catalogue B) (name : List ℕ) → asked.delimiter ≡ []
+    → uploads_told asked c name ≡ plainly (page_of asked.max_uploads (upload_rows_asked asked c name))
+
+-- each row that has no common prefix is told by itself, in its order, as often as it stands there
+abbrev pub AreToldAlone : {A : Type 0} → (A → List ℕ) → (prefix delimiter : List ℕ) → List A → List (RowItem A) → Type 0
+AreToldAlone key prefix delimiter rows items = filter_map row_in items ≡ filter (λ row. is_none (rolled_up prefix delimiter (key row))) rows
+
+-- the common prefix of a row is told once where it stands behind the marker, however many rows have it
+abbrev pub AreToldOnce : {A : Type 0} → (A → List ℕ) → (prefix delimiter marker : List ℕ) → List A → List (RowItem A) → Type 0
+AreToldOnce {A} key prefix delimiter marker rows items =
+    (row : A) (text : List ℕ) → Contains rows row → rolled_up prefix delimiter (key row) ≡ Some text → IsTrue (is_before marker text)
+    → filter (bytes_eq text) (filter_map prefix_in items) ≡ text ∷ []
+
+-- and nothing else is told as one
+abbrev pub ArePrefixesOfRows : {A : Type 0} → (A → List ℕ) → (prefix delimiter marker : List ℕ) → List A → List (RowItem A) → Type 0
+ArePrefixesOfRows {A} key prefix delimiter marker rows items =
+    (text : List ℕ) → Contains (filter_map prefix_in items) text
+    → ((row : A) × Contains rows row × (rolled_up prefix delimiter (key row) ≡ Some text)) × IsTrue (is_before marker text)
+
+-- so each row is told by itself, or by its common prefix alone
+pub record AllAreToldOnce {A : Type 0} (key : A → List ℕ) (prefix delimiter marker : List ℕ) (rows : List A) (items : List (RowItem A)) : Type 0 where
+  pub alone : AreToldAlone key prefix delimiter rows items
+  pub once : AreToldOnce key prefix delimiter marker rows items
+  pub of_rows : ArePrefixesOfRows key prefix delimiter marker rows items
+
+abbrev pub VersionsAreToldOnce : Type 0 → Type 0
+VersionsAreToldOnce B =
+    (asked : VersionsAsked) (c : Catalogue B) (name : List ℕ)
+    → AllAreToldOnce (λ (row : VersionRow). row.key) asked.prefix asked.delimiter asked.key_marker (version_rows_asked asked c name) (versions_asked asked c name)
+
+abbrev pub UploadsAreToldOnce : Type 0 → Type 0
+UploadsAreToldOnce B =
+    (asked : UploadsAsked) (c : Catalogue B) (name : List ℕ)
+    → AllAreToldOnce (λ (row : UploadRow). row.key) asked.prefix asked.delimiter asked.key_marker (upload_rows_asked asked c name) (uploads_asked asked c name)
+
+-- the same request, behind an item: a version, or a common prefix, which has no id
+abbrev pub behind_row : VersionsAsked → RowItem VersionRow → VersionsAsked
+behind_row asked (Row last) = record asked { key_marker = last.key; id_marker = Some last.id }
+behind_row asked (CommonPrefix prefix) = record asked { key_marker = prefix; id_marker = None }
 
 -- and the pages of a list of versions join by their markers, where no key has two versions of one id
 abbrev pub VersionPagesJoin : Type 0 → Type 0
@@ -109,9 +157,10 @@ VersionPagesJoin B =
     (asked : VersionsAsked) (c : Catalogue B) (name : List ℕ) → AreCatalogued c → 0 < asked.max_keys
     → AllJoin (λ a. versions_page a c name) behind_row (λ a. versions_asked a c name) asked
 
--- the same request, behind an upload
-abbrev pub behind_upload : UploadsAsked → UploadRow → UploadsAsked
-behind_upload asked last = record asked { key_marker = last.key; id_marker = Some last.id }
+-- the same request, behind an item: an upload, or a common prefix
+abbrev pub behind_upload : UploadsAsked → RowItem UploadRow → UploadsAsked
+behind_upload asked (Row last) = record asked { key_marker = last.key; id_marker = Some last.id }
+behind_upload asked (CommonPrefix prefix) = record asked { key_marker = prefix; id_marker = None }
 
 -- so do the pages of a list of uploads
 abbrev pub UploadPagesJoin : Type 0 → Type 0

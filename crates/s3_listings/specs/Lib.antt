@@ -3,7 +3,9 @@ pub mod Drafts
 pub mod Objects
 pub mod Pages
 pub mod Parts
+pub mod Rolled
 pub mod Sought
+pub mod Taken
 pub mod Uploads
 pub mod Versions
 pub use Rattle.s3_prefixes.specs.Items

@@ -1,5 +1,5 @@
 -- How the rows of a list that stands by key are looked for: from a text on that is behind no row that is asked for.
-use Rattle.std.specs.Prelude.{◌≡◌, ℕ, Bool, false, not, nat_eq, List, [], ◌∷◌, filter, Contains, ⊤}
+use Rattle.std.specs.Prelude.{◌≡◌, ℕ, Bool, true, false, not, nat_eq, List, [], ◌∷◌, filter, Contains, ⊤}
 use Rattle.std.specs.List.{AllByRecursion, starts_with}
 use Rattle.s3_records.specs.Rows.{is_from}
 use Rattle.s3_records.specs.declared.rows.Start.{Start}
@@ -16,6 +16,10 @@ is_at_least key text row = not (is_before (key row) text)
 -- it is behind a text
 abbrev pub is_later : {A : Type 0} → (A → List ℕ) → List ℕ → A → Bool
 is_later key text row = is_before text (key row)
+
+-- no key is in front of a place, unless it is before a text
+abbrev pub Covers : Start → List ℕ → Type 0
+Covers start text = (key : List ℕ) → is_from start key ≡ false → is_before key text ≡ true
 
 -- the rows from a place on, and from a text on
 abbrev pub rows_from : {A : Type 0} → (A → List ℕ) → Start → List A → List A

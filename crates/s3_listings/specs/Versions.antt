@@ -10,6 +10,8 @@ use Rattle.s3_records.specs.declared.rows.VersionStart.{VersionStart}
 use Rattle.s3_records.specs.declared.rows.VersionStart.TheVariants.{At, BehindVersion}
 use Rattle.s3_listings.specs.declared.asked.VersionsAsked.{VersionsAsked}
 use Rattle.s3_listings.specs.Pages.{Page, page_of}
+use Rattle.s3_listings.specs.Rolled.{RowsTold, items_asked, rows_told}
+use Rattle.s3_listings.specs.declared.row_page.RowItem.{RowItem}
 
 -- where the list goes on: behind a key, or behind a version of it
 abbrev pub marked : List ℕ → Option VersionId → VersionStart
@@ -20,10 +22,19 @@ marked key (Some id) = BehindVersion key id
 abbrev pub is_asked : VersionsAsked → VersionRow → Bool
 is_asked asked row = starts_with nat_eq row.key asked.prefix
 
--- all versions that are asked for
-abbrev pub versions_asked : {B : Type 0} → VersionsAsked → Catalogue B → List ℕ → List VersionRow
-versions_asked asked c name = filter (is_asked asked) (versions_from c name (marked asked.key_marker asked.id_marker))
+-- the rows of all versions that are asked for
+abbrev pub version_rows_asked : {B : Type 0} → VersionsAsked → Catalogue B → List ℕ → List VersionRow
+version_rows_asked asked c name = filter (is_asked asked) (versions_from c name (marked asked.key_marker asked.id_marker))
+
+-- all items that are asked for
+abbrev pub versions_asked : {B : Type 0} → VersionsAsked → Catalogue B → List ℕ → List (RowItem VersionRow)
+versions_asked asked c name =
+    items_asked (λ (row : VersionRow). row.key) asked.prefix asked.delimiter asked.key_marker (version_rows_asked asked c name)
 
 -- the page of them
-unfoldable pub versions_page : {B : Type 0} → VersionsAsked → Catalogue B → List ℕ → Page VersionRow
+abbrev pub versions_page : {B : Type 0} → VersionsAsked → Catalogue B → List ℕ → Page (RowItem VersionRow)
 versions_page asked c name = page_of asked.max_keys (versions_asked asked c name)
+
+-- what it tells
+unfoldable pub versions_told : {B : Type 0} → VersionsAsked → Catalogue B → List ℕ → RowsTold VersionRow
+versions_told asked c name = rows_told (versions_page asked c name)

@@ -8,11 +8,13 @@ use s3_prefixes::Text;
 pub struct VersionsAsked {
     /// Only keys that begin so are told.
     pub prefix: Text,
-    /// Only what stands behind this key is told, unless a version of it is named.
+    /// Keys that are alike up to the first of it behind the prefix are told as one common prefix; none are where it is empty.
+    pub delimiter: Text,
+    /// Only what stands behind this key is told, unless a version of it is named, and only common prefixes that do.
     pub key_marker: Text,
     /// Only what stands behind the version of this id of that key is told; where there is none, what stands behind the key.
     pub id_marker: Option<VersionId>,
-    /// How many versions a page has at most, from 0 to 1,000.
+    /// How many versions and common prefixes a page has at most, from 0 to 1,000.
     pub max_keys: u16,
     /// Whether keys and what was asked by are told UriEncoded (`encoding-type=url`).
     pub is_url_encoded: bool,
@@ -23,11 +25,13 @@ pub struct VersionsAsked {
 pub struct UploadsAsked {
     /// Only uploads whose keys begin so are told.
     pub prefix: Text,
-    /// Only what stands behind this key is told, unless an upload of it is named.
+    /// Keys that are alike up to the first of it behind the prefix are told as one common prefix; none are where it is empty.
+    pub delimiter: Text,
+    /// Only what stands behind this key is told, unless an upload of it is named, and only common prefixes that do.
     pub key_marker: Text,
     /// Of that key only uploads with greater ids than this one are told, whether it is there or not.
     pub id_marker: Option<UploadId>,
-    /// How many uploads a page has at most, from 0 to 1,000.
+    /// How many uploads and common prefixes a page has at most, from 0 to 1,000.
     pub max_uploads: u16,
     /// Whether keys and what was asked by are told UriEncoded (`encoding-type=url`).
     pub is_url_encoded: bool,

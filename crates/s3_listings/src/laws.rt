@@ -1,5 +1,5 @@
 //! Laws of lists: what users may rely on, with nothing to run.
-ghost use Rattle.s3_listings.specs.Laws.{ItemsRise, ItemsAreOfKeys, KeysAreToldOnce, ListedAreKeys, ListedAreRead, PagesJoin, VersionPagesJoin, UploadPagesJoin, PartPagesJoin};
+ghost use Rattle.s3_listings.specs.Laws.{ItemsRise, ItemsAreOfKeys, KeysAreToldOnce, ListedAreKeys, ListedAreRead, PagesJoin, PlainUploadsAreRows, PlainVersionsAreRows, UploadsAreToldOnce, VersionsAreToldOnce, VersionPagesJoin, UploadPagesJoin, PartPagesJoin};
 
 use s3_records::{keys_rise, uploads_are_listed};
 
@@ -43,3 +43,18 @@ pub fn upload_pages_join<B>()
 pub fn part_pages_join<B>()
     ensures { PartPagesJoin B }
 {}
+
+/// A law, with nothing to run: where no delimiter is given, a list of versions or of uploads tells each row by itself.
+pub fn plain_lists_are_rows<B>()
+    ensures versions { PlainVersionsAreRows B }
+    ensures uploads { PlainUploadsAreRows B }
+{}
+
+/// A law, with nothing to run: in a list of versions or of uploads a row that has no common prefix is told by itself, as often as
+/// it stands there; the common prefix of others is told once, where it stands behind the marker, and no other one is told.
+pub fn rows_are_told_once<B>()
+    ensures versions { VersionsAreToldOnce B }
+    ensures uploads { UploadsAreToldOnce B }
+{
+    uploads_are_listed::<B>();
+}

@@ -11,18 +11,21 @@ mod object_page;
 mod objects;
 mod parts;
 mod places;
+mod rolled;
+mod row_page;
 mod sought;
 mod uploads;
 mod versions;
 
 pub use asked::{PartsAsked, UploadsAsked, VersionsAsked};
 pub use laws::{
-    items_are_distinct, listed_keys_are_read, pages_join, part_pages_join, upload_pages_join,
-    version_pages_join,
+    items_are_distinct, listed_keys_are_read, pages_join, part_pages_join, plain_lists_are_rows,
+    rows_are_told_once, upload_pages_join, version_pages_join,
 };
-pub use list_page::{ListPage, PartPage, UploadPage, VersionPage};
+pub use list_page::{ListPage, PartPage};
 pub use object_page::{ListedObject, ObjectPage};
 pub use objects::list_objects;
 pub use parts::list_parts;
+pub use row_page::{RowItem, RowPage, UploadPage, VersionPage};
 pub use uploads::list_uploads;
 pub use versions::list_versions;

@@ -3,7 +3,6 @@ ghost use Rattle.std.specs.Prelude.{◌≡◌, ◌<◌, ◌+◌, List, [], false
 ghost use Rattle.std.specs.Option.{option_copied};
 ghost use Rattle.s3_listings.specs.Pages.{next_of, page_of};
 
-use s3_records::{UploadRow, VersionRow};
 use s3_uploads::PartRow;
 use std::alloc::Global;
 use std::marker::Model;
@@ -14,12 +13,6 @@ pub struct ListPage<R> {
     pub(crate) rows: Vec<R>,
     pub(crate) is_truncated: bool,
 }
-
-/// A page of a list of versions, by key in the order of bytes, the newest version of a key first.
-pub type VersionPage = ListPage<VersionRow>;
-
-/// A page of a list of uploads, by key in the order of bytes, and of one key by their ids.
-pub type UploadPage = ListPage<UploadRow>;
 
 /// A page of a list of an upload's parts, by their numbers.
 pub type PartPage = ListPage<PartRow>;

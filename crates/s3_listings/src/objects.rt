@@ -17,7 +17,7 @@ use s3_terms::NoMemory;
 use std::alloc::Global;
 
 /// How many rows are asked for at once where the next ones may be of no use.
-const BATCH: usize = 32;
+pub(crate) const BATCH: usize = 32;
 
 /// What is told of a bucket's objects (Amazon S3 API Reference, ListObjectsV2): the first so many items behind the token, which
 /// are objects and common prefixes. Costs each key that is looked at: those that are told, delete markers among them, a batch

@@ -195,6 +195,16 @@ fn is_done(asked: &ObjectsAsked, prefix: &[u8], last: Option<&[u8]>) -> bool
 fn raised(alloc: Global, text: &[u8]) -> Result<Option<Key>, NoMemory>
     ensures { IfOk result (λ found. IfSome found (λ key. IsRaised text.now key)) }
 {
+    match raised_text(alloc, text)? {
+        Some(bytes) => read_key(alloc, bytes.as_slice()),
+        None => Ok(None),
+    }
+}
+
+/// A text with its last byte raised by one, where there is such a byte.
+pub(crate) fn raised_text(alloc: Global, text: &[u8]) -> Result<Option<Vec<u8>>, NoMemory>
+    ensures { IfOk result (λ found. IfSome found (λ raised. IsRaised text.now raised.items)) }
+{
     let mut bytes = Vec::from_slice(alloc, text)?;
     let Some(last) = bytes.pop() else {
         return Ok(None);
@@ -203,5 +213,5 @@ fn raised(alloc: Global, text: &[u8]) -> Result<Option<Key>, NoMemory>
         return Ok(None);
     };
     bytes.push(byte)?;
-    read_key(alloc, bytes.as_slice())
+    Ok(Some(bytes))
 }

@@ -1,16 +1,20 @@
 //! Lists whose rows stand by key: from which place on their rows are asked for, and which of these a page has.
-ghost use Rattle.std.specs.Prelude.{◌≡◌, ◌≢◌, ◌<◌, ◌+◌, ℕ, List, not, true, false, filter, take, take_while, length, slice_get, slice_index_or, Option, Some, None, IfOk, OnErr, IfSome, All};
-ghost use Rattle.std.specs.List.{AllWithin, starts_with};
+ghost use Rattle.std.specs.Prelude.{◌≡◌, ◌≢◌, ◌<◌, ◌+◌, ℕ, List, not, nat_eq, true, false, filter, take, take_while, length, slice_get, slice_index_or, Option, Some, None, IfOk, IsTrue, OnErr, IfSome, All};
+ghost use Rattle.std.specs.List.{AllByRecursion, AllWithin, starts_with};
 ghost use Rattle.s3_names.specs.Names.{is_key};
 ghost use Rattle.s3_records.specs.Catalogue.{Catalogue};
 ghost use Rattle.s3_prefixes.specs.Items.{is_before};
 ghost use Rattle.s3_listings.specs.Pages.{page_of};
-ghost use Rattle.s3_listings.specs.Sought.{AreByKey, AreBehind, begins_with, rows_from, rows_at_least};
+ghost use Rattle.s3_listings.specs.Rolled.{items_asked, rows_told};
+ghost use Rattle.s3_listings.specs.Sought.{AreByKey, AreBehind, Covers, begins_with, rows_from, rows_at_least};
+ghost use Rattle.s3_listings.specs.Taken.{AreEnough, IsAlone, IsPlace, left_at};
 
-use crate::ListPage;
+use crate::objects::BATCH;
 use crate::places::{from_text, read_key};
+use crate::rolled::{Place, take_rows};
+use crate::{ListPage, RowItem, RowPage};
 use s3_names::{BucketName, Key};
-use s3_prefixes::{Text, is_before};
+use s3_prefixes::{ListVersion, ObjectsAsked, Text, is_before, prefix_len};
 use s3_records::{Records, Start};
 use s3_terms::NoMemory;
 use std::alloc::Global;
@@ -107,8 +111,27 @@ fn rows_at_least<T: Listed, R: Records>(
     ensures value { IfOk result (λ rows. rows.items ≡ take most (rows_at_least T.key text.now (T.all (R.catalogue records.old) bucket.now))) }
     ensures same { R.catalogue records.new ≡ R.catalogue records.old }
 {
+    let start = from_text(alloc, text)?;
+    rows_at_least_from(records, alloc, bucket, start, text, most)
+}
+
+// The same, from a place on that no key is in front of, unless it is before the text. Costs these rows, and the keys from that
+// place on that are before the text.
+fn rows_at_least_from<T: Listed, R: Records>(
+    records: &mut R,
+    alloc: Global,
+    bucket: &BucketName,
+    start: Start,
+    text: &[u8],
+    most: usize,
+) -> Result<Vec<T>, NoMemory>
+    requires some { 0 < most }
+    requires covers { Covers start text.now }
+    ensures value { IfOk result (λ rows. rows.items ≡ take most (rows_at_least T.key text.now (T.all (R.catalogue records.old) bucket.now))) }
+    ensures same { R.catalogue records.new ≡ R.catalogue records.old }
+{
     T::stand_by_key();
-    let mut start = from_text(alloc, text)?;
+    let mut start = start;
     loop {
         let mut rows = T::rows_from(records, alloc, bucket, start, most)?;
         match take_key_before(&mut rows, text) {
@@ -214,9 +237,9 @@ fn rows_asked<T: Listed, R: Records>(
     Ok(kept(rows, wanted.prefix))
 }
 
-/// The page of the rows that are asked for, with at most so many. Costs as many rows as the page may have, also where fewer
-/// begin with the prefix, and to find the first of them. `NoMemory` comes only where the page may have a row.
-pub(crate) fn page_asked<T: Listed, R: Records>(
+// The page of the rows that are asked for, with at most so many. Costs as many rows as the page may have, also where fewer
+// begin with the prefix, and to find the first of them. `NoMemory` comes only where the page may have a row.
+fn rows_page<T: Listed, R: Records>(
     records: &mut R,
     alloc: Global,
     bucket: &BucketName,
@@ -234,4 +257,198 @@ pub(crate) fn page_asked<T: Listed, R: Records>(
     }
     let rows = rows_asked(records, alloc, bucket, wanted, most + 1)?;
     Ok(ListPage::of(rows, most))
+}
+
+// The rows from a text on that are asked for, at most so many: from a place on that no key is in front of, unless it is before the
+// text.
+fn rows_beyond<T: Listed, R: Records>(
+    records: &mut R,
+    alloc: Global,
+    bucket: &BucketName,
+    prefix: &[u8],
+    start: Start,
+    text: &[u8],
+    most: usize,
+) -> Result<Vec<T>, NoMemory>
+    requires some { 0 < most }
+    requires covers { Covers start text.now }
+    requires behind { is_before text.now prefix.now ≡ false }
+    ensures value { IfOk result (λ rows. rows.items
+        ≡ take most (filter (begins_with T.key prefix.now) (rows_at_least T.key text.now (T.all (R.catalogue records.old) bucket.now)))) }
+    ensures same { R.catalogue records.new ≡ R.catalogue records.old }
+{
+    T::stand_by_key();
+    let rows = rows_at_least_from(records, alloc, bucket, start, text, most)?;
+    Ok(kept(rows, prefix))
+}
+
+// The same place once more.
+fn copied(start: &Start) -> Result<Start, NoMemory>
+    ensures { IfOk result (λ copied. copied ≡ start.now) }
+{
+    match start {
+        Start::First => Ok(Start::First),
+        Start::From(first) => Ok(Start::From(first.copy()?)),
+        Start::Behind(last) => Ok(Start::Behind(last.copy()?)),
+    }
+}
+
+// The rows that are left from a place on, at most so many.
+fn rows_at<T: Listed, R: Records>(
+    records: &mut R,
+    alloc: Global,
+    bucket: &BucketName,
+    wanted: &Wanted<'_, T::Name>,
+    place: &Place,
+    most: usize,
+) -> Result<Vec<T>, NoMemory>
+    requires some { 0 < most }
+    requires place { IsPlace wanted.now.prefix.now wanted.now.marker.now place.now }
+    ensures value { IfOk result (λ rows. rows.items ≡ take most (left_at T.key
+        (filter (begins_with T.key wanted.now.prefix.now) (T.behind (R.catalogue records.old) bucket.now wanted.now.marker.now wanted.now.id)) place.now)) }
+    ensures same { R.catalogue records.new ≡ R.catalogue records.old }
+{
+    T::stand_by_key();
+    match place {
+        Place::Marker => rows_asked(records, alloc, bucket, wanted, most),
+        Place::Beyond { start, text } => {
+            let start = copied(start)?;
+            rows_beyond(records, alloc, bucket, wanted.prefix, start, text, most)
+        }
+    }
+}
+
+// Whether one of the rows has a common prefix.
+fn have_prefix<T: Listed>(rows: &[T], rolling: &ObjectsAsked) -> bool
+    requires { AllByRecursion (λ row. IsTrue (starts_with nat_eq (T.key row) rolling.now.prefix)) rows.now }
+    ensures { result ≡ true → ¬ AllByRecursion (IsAlone T.key rolling.now.prefix rolling.now.delimiter) rows.now }
+{
+    match rows {
+        [] => false,
+        [row, rest @ ..] => {
+            prefix_len(rolling, row.key()).is_some() || have_prefix(rest, rolling)
+        }
+    }
+}
+
+// Rows that are left from a place on, enough for so many items: a few where one of them has a common prefix.
+fn enough_rows<T: Listed, R: Records>(
+    records: &mut R,
+    alloc: Global,
+    bucket: &BucketName,
+    wanted: &Wanted<'_, T::Name>,
+    rolling: &ObjectsAsked,
+    place: &Place,
+    most: usize,
+) -> Result<Vec<T>, NoMemory>
+    requires some { 0 < most }
+    requires place { IsPlace wanted.now.prefix.now wanted.now.marker.now place.now }
+    requires rolling { rolling.now.prefix ≡ wanted.now.prefix.now }
+    ensures value { IfOk result (λ rows. AreEnough T.key rolling.now.prefix rolling.now.delimiter most (left_at T.key
+        (filter (begins_with T.key wanted.now.prefix.now) (T.behind (R.catalogue records.old) bucket.now wanted.now.marker.now wanted.now.id)) place.now) rows.items) }
+    ensures same { R.catalogue records.new ≡ R.catalogue records.old }
+{
+    let few = BATCH.min(most);
+    let rows = rows_at::<T, R>(records, alloc, bucket, wanted, place, few)?;
+    if few == most || rows.len() < few || have_prefix(&rows, rolling) {
+        return Ok(rows);
+    }
+    drop(rows);
+    rows_at(records, alloc, bucket, wanted, place, most)
+}
+
+// The items that are asked for, so many at least where there are so many.
+fn items_asked<T: Listed, R: Records>(
+    records: &mut R,
+    alloc: Global,
+    bucket: &BucketName,
+    wanted: &Wanted<'_, T::Name>,
+    rolling: &ObjectsAsked,
+    most: usize,
+) -> Result<Vec<RowItem<T>>, NoMemory>
+    requires some { 0 < most }
+    requires rolling { rolling.now.prefix ≡ wanted.now.prefix.now }
+    ensures value { IfOk result (λ items. take most items.items ≡ take most (items_asked T.key rolling.now.prefix rolling.now.delimiter wanted.now.marker.now
+        (filter (begins_with T.key wanted.now.prefix.now) (T.behind (R.catalogue records.old) bucket.now wanted.now.marker.now wanted.now.id)))) }
+    ensures same { R.catalogue records.new ≡ R.catalogue records.old }
+{
+    T::stand_by_key();
+    let mut items = Vec::new(alloc);
+    let mut place = Place::Marker;
+    loop {
+        let rows = enough_rows::<T, R>(records, alloc, bucket, wanted, rolling, &place, most)?;
+        let Some(next) = take_rows(alloc, &mut items, rows, rolling, wanted.marker)? else {
+            return Ok(items);
+        };
+        if items.len() >= most {
+            return Ok(items);
+        }
+        place = next;
+    }
+}
+
+// How keys are rolled up, by this prefix and this delimiter.
+fn rolling_by(prefix: &Text, delimiter: &Text) -> Result<ObjectsAsked, NoMemory>
+    ensures prefix { IfOk result (λ asked. asked.prefix ≡ prefix.now) }
+    ensures delimiter { IfOk result (λ asked. asked.delimiter ≡ delimiter.now) }
+{
+    Ok(ObjectsAsked {
+        version: ListVersion::Second,
+        prefix: prefix.copy()?,
+        delimiter: delimiter.copy()?,
+        start_after: None,
+        token: None,
+        max_keys: 0,
+        is_url_encoded: false,
+        tells_owner: false,
+    })
+}
+
+// The page of the items that are asked for, with at most so many, where keys may have common prefixes.
+fn rolled_page<T: Listed, R: Records>(
+    records: &mut R,
+    alloc: Global,
+    bucket: &BucketName,
+    wanted: &Wanted<'_, T::Name>,
+    rolling: &ObjectsAsked,
+    most: usize,
+) -> Result<RowPage<T>, NoMemory>
+    requires some { 0 < most }
+    requires fits { most < 65_536 }
+    requires rolling { rolling.now.prefix ≡ wanted.now.prefix.now }
+    ensures value { IfOk result (λ page. page ≡ rows_told (page_of most
+        (items_asked T.key rolling.now.prefix rolling.now.delimiter wanted.now.marker.now
+        (filter (begins_with T.key wanted.now.prefix.now) (T.behind (R.catalogue records.old) bucket.now wanted.now.marker.now wanted.now.id))))) }
+    ensures same { R.catalogue records.new ≡ R.catalogue records.old }
+{
+    let mut items = items_asked::<T, R>(records, alloc, bucket, wanted, rolling, most + 1)?;
+    items.truncate(most + 1);
+    RowPage::of(alloc, ListPage::of(items, most))
+}
+
+/// The page of the items that are asked for, with at most so many. Costs as many rows as the page may have, also where fewer begin
+/// with the prefix, and to find the first of them. With a delimiter it costs a batch for each common prefix, however many keys have
+/// it, unless the delimiter ends in the byte 0x7F or 0xBF. `NoMemory` comes only where the page may have an item.
+pub(crate) fn page_asked<T: Listed, R: Records>(
+    records: &mut R,
+    alloc: Global,
+    bucket: &BucketName,
+    wanted: &Wanted<'_, T::Name>,
+    prefix: &Text,
+    delimiter: &Text,
+    most: u16,
+) -> Result<RowPage<T>, NoMemory>
+    requires { prefix.now ≡ wanted.now.prefix.now }
+    ensures value { IfOk result (λ page. page ≡ rows_told (page_of most
+        (items_asked T.key prefix.now delimiter.now wanted.now.marker.now
+        (filter (begins_with T.key wanted.now.prefix.now) (T.behind (R.catalogue records.old) bucket.now wanted.now.marker.now wanted.now.id))))) }
+    ensures same { R.catalogue records.new ≡ R.catalogue records.old }
+    ensures memory { OnErr result (0 < most) }
+{
+    if most == 0 || delimiter.as_bytes().is_empty() {
+        let page = rows_page::<T, R>(records, alloc, bucket, wanted, most)?;
+        return Ok(RowPage::plain(alloc, page));
+    }
+    let rolling = rolling_by(prefix, delimiter)?;
+    rolled_page(records, alloc, bucket, wanted, &rolling, most as usize)
 }

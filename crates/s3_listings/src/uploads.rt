@@ -1,7 +1,7 @@
 //! The list of the uploads in a bucket, page by page.
 ghost use Rattle.std.specs.Prelude.{◌≡◌, ◌<◌, take, IfOk, OnErr};
 ghost use Rattle.s3_records.specs.OpenUploads.{upload_rows, uploads_from};
-ghost use Rattle.s3_listings.specs.Uploads.{marked, uploads_page};
+ghost use Rattle.s3_listings.specs.Uploads.{marked, uploads_told};
 
 use crate::sought::{Listed, Wanted, page_asked};
 use crate::{UploadPage, UploadsAsked};
@@ -70,14 +70,14 @@ fn marked(key: Key, id: Option<UploadId>) -> UploadStart
 /// The page of the uploads in a bucket that is asked for, which is there or not. Costs as many uploads as the page may
 /// have, also where fewer begin with the prefix, and, to find the first, the logarithm of how many there are. `NoMemory`
 /// comes only where the page may have an upload.
-#[tactic(auto, unfolding(crate::specs::Uploads::uploads_page))]
+#[tactic(auto, unfolding(crate::specs::Uploads::uploads_told))]
 pub fn list_uploads<R: Records>(
     records: &mut R,
     alloc: Global,
     bucket: &BucketName,
     asked: &UploadsAsked,
 ) -> Result<UploadPage, NoMemory>
-    ensures value { IfOk result (λ page. page ≡ uploads_page asked.now (R.catalogue records.old) bucket.now) }
+    ensures value { IfOk result (λ page. page ≡ uploads_told asked.now (R.catalogue records.old) bucket.now) }
     ensures same { R.catalogue records.new ≡ R.catalogue records.old }
     ensures memory { OnErr result (0 < asked.now.max_uploads) }
 {
@@ -86,5 +86,13 @@ pub fn list_uploads<R: Records>(
         marker: asked.key_marker.as_bytes(),
         id: asked.id_marker,
     };
-    page_asked(records, alloc, bucket, &wanted, asked.max_uploads)
+    page_asked(
+        records,
+        alloc,
+        bucket,
+        &wanted,
+        &asked.prefix,
+        &asked.delimiter,
+        asked.max_uploads,
+    )
 }

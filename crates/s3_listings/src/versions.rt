@@ -1,7 +1,7 @@
 //! The list of a bucket's versions, page by page.
 ghost use Rattle.std.specs.Prelude.{◌≡◌, ◌<◌, take, IfOk, OnErr};
 ghost use Rattle.s3_records.specs.Rows.{version_rows, versions_from};
-ghost use Rattle.s3_listings.specs.Versions.{marked, versions_page};
+ghost use Rattle.s3_listings.specs.Versions.{marked, versions_told};
 
 use crate::sought::{Listed, Wanted, page_asked};
 use crate::{VersionPage, VersionsAsked};
@@ -67,14 +67,14 @@ fn marked(key: Key, id: Option<VersionId>) -> VersionStart
 /// The page of a bucket's versions that is asked for, whose bucket is there or not. Costs as many versions as the page
 /// may have, also where fewer begin with the prefix, and, to find the first, the logarithm of how many keys the bucket
 /// has. `NoMemory` comes only where the page may have a version.
-#[tactic(auto, unfolding(crate::specs::Versions::versions_page))]
+#[tactic(auto, unfolding(crate::specs::Versions::versions_told))]
 pub fn list_versions<R: Records>(
     records: &mut R,
     alloc: Global,
     bucket: &BucketName,
     asked: &VersionsAsked,
 ) -> Result<VersionPage, NoMemory>
-    ensures value { IfOk result (λ page. page ≡ versions_page asked.now (R.catalogue records.old) bucket.now) }
+    ensures value { IfOk result (λ page. page ≡ versions_told asked.now (R.catalogue records.old) bucket.now) }
     ensures same { R.catalogue records.new ≡ R.catalogue records.old }
     ensures memory { OnErr result (0 < asked.now.max_keys) }
 {
@@ -83,5 +83,13 @@ pub fn list_versions<R: Records>(
         marker: asked.key_marker.as_bytes(),
         id: asked.id_marker,
     };
-    page_asked(records, alloc, bucket, &wanted, asked.max_keys)
+    page_asked(
+        records,
+        alloc,
+        bucket,
+        &wanted,
+        &asked.prefix,
+        &asked.delimiter,
+        asked.max_keys,
+    )
 }

@@ -1,5 +1,5 @@
 -- What is dropped of buckets, and which versioning they have.
-use Rattle.std.proofs.Common.{◌≡◌, refl, sym, ap, subst, ◌∙◌, ◌⊎◌, ⊎_elim, inl, inr, Bool, true, false, not, ℕ, List, [], ◌∷◌, ◌++◌, Option, Some, None, is_some, option_map, Result, Ok, Err}
+use Rattle.std.proofs.Common.{◌≡◌, refl, sym, ap, subst, ◌∙◌, ◌⊎◌, ⊎_elim, inl, inr, Bool, true, false, not, ℕ, List, [], ◌∷◌, ◌++◌, if◌then◌else◌, Option, Some, None, is_some, option_map, Result, Ok, Err}
 use Rattle.std.proofs.lemmas.Bool.{false≢true, not-false}
 use Rattle.std.proofs.lemmas.Option.{same_Some}
 use Rattle.std.specs.FinMap as map
@@ -34,7 +34,7 @@ use Rattle.s3_machine.specs.declared.command.Outcome.TheVariants as outcomes
 use Rattle.s3_machine.specs.declared.command.WriteCondition.TheVariants as write_conditions
 use Rattle.s3_machine.specs.declared.rules.Rules.{Rules}
 use Rattle.s3_machine.specs.Bases.{EverySoundHistory, HistoriesLeaveSound}
-use Rattle.s3_machine.specs.Buckets.{makes_bucket, drops_bucket, sets_versioning, asks_versioning, HasSomething, HasNothing, Switches, LeavesVersioning, FullBucketsStay, EmptyBucketsAreDropped, VersioningIsTold, NewBucketsAreUnversioned}
+use Rattle.s3_machine.specs.Buckets.{makes_bucket, drops_bucket, sets_versioning, asks_versioning, finds_bucket, HasSomething, HasNothing, Switches, LeavesVersioning, FullBucketsStay, EmptyBucketsAreDropped, VersioningIsTold, NewBucketsAreUnversioned, RegionIsTold}
 use Rattle.s3_machine.specs.Effects.{is_refused, succeeds}
 use Rattle.s3_machine.specs.Fault.{refuse, as_refusal}
 use Rattle.s3_machine.specs.History.{Entry, IsAnswer, Legal, after, after_entry}
@@ -352,3 +352,26 @@ module _ (rest : DeletionsKeepTheRest (List ℕ)) where
   new_buckets_are_unversioned rules s n entries legal before between later make ask name parts makes =
       versioning_told rules s n entries before between later make ask name Unversioned legal parts
       (step_makes rules (after rules s before) make.answer.number make.moment make.command name makes)
+
+-- ---- where a bucket is
+
+found_by : (s : State) (is_there : Bool) (region : List ℕ)
+    → (stepped s (refuse (not is_there) NoSuchBucket >> Ok (s, outcomes.BucketFound region))).1
+    ≡ if is_there then outcomes.BucketFound region else outcomes.Refused NoSuchBucket false
+found_by s true region = refl
+found_by s false region = refl
+
+step_finds : (rules : Rules) (s : State) (n t : ℕ) (command : Command) (name : List ℕ) → finds_bucket command ≡ Some name
+    → (step rules s n t command).1 ≡ if has_bucket s name then outcomes.BucketFound rules.region else outcomes.Refused NoSuchBucket false
+unfolding done bucket_done
+step_finds rules s n t (commands.Bucket asked bucket_commands.Head) name finds =
+    found_by s (has_bucket s asked) rules.region
+    ∙ ap (λ (b : List ℕ). if has_bucket s b then outcomes.BucketFound rules.region else outcomes.Refused NoSuchBucket false)
+    (same_Some asked name finds)
+step_finds rules s n t _ name finds = absurd (cc)
+
+pub region_is_told : EveryHistory RegionIsTold
+region_is_told rules s n entries legal before later find name parts finds =
+    let here = after rules s before in
+    outcome_is rules here _ find (right_at rules s n entries before later find legal parts)
+    ∙ step_finds rules here find.answer.number find.moment find.command name finds

@@ -15,8 +15,8 @@ use Rattle.s3_listings.specs.declared.asked.VersionsAsked.{VersionsAsked}
 use Rattle.s3_listings.specs.Objects.{objects_told}
 use Rattle.s3_listings.specs.Pages.{Page}
 use Rattle.s3_listings.specs.Parts.{parts_page}
-use Rattle.s3_listings.specs.Uploads.{uploads_page}
-use Rattle.s3_listings.specs.Versions.{versions_page}
+use Rattle.s3_listings.specs.Uploads.{uploads_told}
+use Rattle.s3_listings.specs.Versions.{versions_told}
 use Rattle.s3_documents.specs.Document as documents
 use Rattle.s3_machine.specs.declared.command.BucketCommand.TheVariants as bucket_commands
 use Rattle.s3_machine.specs.declared.command.Command.TheVariants as commands
@@ -42,13 +42,13 @@ objects_there rules s n t name asked there = ap (λ (st : Stepped). st.1) (past_
 
 versions_there : (rules : Rules) (s : State) (n t : ℕ) (name : List ℕ) (asked : VersionsAsked) → IsTrue (has_bucket s name)
     → (step rules s n t (commands.Bucket name (bucket_commands.ListVersions asked))).1
-    ≡ outcomes.Told (documents.versions name asked (versions_page asked s name))
+    ≡ outcomes.Told (documents.versions name asked (versions_told asked s name))
 unfolding done bucket_done
 versions_there rules s n t name asked there = ap (λ (st : Stepped). st.1) (past_line s (not (has_bucket s name)) _ (ap not there))
 
 uploads_there : (rules : Rules) (s : State) (n t : ℕ) (name : List ℕ) (asked : UploadsAsked) → IsTrue (has_bucket s name)
     → (step rules s n t (commands.Bucket name (bucket_commands.ListUploads asked))).1
-    ≡ outcomes.Told (documents.uploads name asked (uploads_page asked s name))
+    ≡ outcomes.Told (documents.uploads name asked (uploads_told asked s name))
 unfolding done bucket_done
 uploads_there rules s n t name asked there = ap (λ (st : Stepped). st.1) (past_line s (not (has_bucket s name)) _ (ap not there))
 
@@ -85,14 +85,14 @@ object_lists_are_told rules s n entries legal before later list name asked parts
 
 pub version_lists_are_told : EveryHistory VersionListsAreTold
 version_lists_are_told rules s n entries legal before later list name asked parts is there = (
-  versions_page asked (after rules s before) name,
+  versions_told asked (after rules s before) name,
   command_outcome rules s n entries before later list _ legal parts is
       ∙ versions_there rules (after rules s before) list.answer.number list.moment name asked there,
 )
 
 pub upload_lists_are_told : EveryHistory UploadListsAreTold
 upload_lists_are_told rules s n entries legal before later list name asked parts is there = (
-  uploads_page asked (after rules s before) name,
+  uploads_told asked (after rules s before) name,
   command_outcome rules s n entries before later list _ legal parts is
       ∙ uploads_there rules (after rules s before) list.answer.number list.moment name asked there,
 )

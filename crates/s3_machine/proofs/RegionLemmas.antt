@@ -15,9 +15,11 @@ bytes_are_ascii [] all i = omega arith
 bytes_are_ascii (b ∷ bytes) all zero = byte_is_ascii b (and_parts (is_region_byte b) (list_all is_region_byte bytes) all).0
 bytes_are_ascii (b ∷ bytes) all (suc i) = bytes_are_ascii bytes (and_parts (is_region_byte b) (list_all is_region_byte bytes) all).1 i
 
--- that of a server
-pub region_is_text : (settings : Settings) → IsTrue (are_settings settings) → IsUtf8 settings.region
-unfolding are_settings is_region
-region_is_text settings are =
-    let named : is_region settings.region ≡ true = (and_parts _ _ (and_parts _ _ (and_parts _ _ are).0).0).0 in
-    IsUtf8-from_ascii settings.region (bytes_are_ascii settings.region (and_parts _ _ named).1)
+pub region_is_text : (region : List ℕ) → IsTrue (is_region region) → IsUtf8 region
+unfolding is_region
+region_is_text region is = IsUtf8-from_ascii region (bytes_are_ascii region (and_parts _ _ is).1)
+
+-- that of a server is one
+pub region_of_settings : (settings : Settings) → IsTrue (are_settings settings) → IsTrue (is_region settings.region)
+unfolding are_settings
+region_of_settings settings are = (and_parts _ _ (and_parts _ _ (and_parts _ _ are).0).0).0

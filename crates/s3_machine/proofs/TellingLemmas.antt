@@ -29,7 +29,7 @@ use Rattle.s3_records.specs.declared.rows.UploadStart.TheVariants.{At}
 use Rattle.s3_listings.specs.declared.asked.PartsAsked.{PartsAsked}
 use Rattle.s3_listings.specs.declared.asked.UploadsAsked.{UploadsAsked}
 use Rattle.s3_listings.specs.Parts.{parts_page}
-use Rattle.s3_listings.specs.Uploads.{is_asked, uploads_asked, uploads_page}
+use Rattle.s3_listings.specs.Uploads.{is_asked, upload_rows_asked, uploads_told}
 use Rattle.s3_documents.specs.Document as documents
 use Rattle.s3_machine.specs.declared.command.BucketCommand.TheVariants as bucket_commands
 use Rattle.s3_machine.specs.declared.command.Command.{Command}
@@ -233,7 +233,7 @@ closed_uploads_are_refused rules s n t upload asked there none =
 pub uploads_step : (rules : Rules) (s : State) (n t : ℕ) (name : List ℕ) (asked : UploadsAsked)
     → succeeds (step rules s n t (commands.Bucket name (bucket_commands.ListUploads asked))).1 ≡ true
     → (step rules s n t (commands.Bucket name (bucket_commands.ListUploads asked))).1
-    ≡ outcomes.Told (documents.uploads name asked (uploads_page asked s name))
+    ≡ outcomes.Told (documents.uploads name asked (uploads_told asked s name))
 unfolding done bucket_done
 uploads_step rules s n t name asked success = page_told s (not (has_bucket s name)) _ success
 
@@ -280,7 +280,7 @@ is_behind_none row some = behind_none row.key some
 
 -- so the list of all has all rows
 all_rows : (s : State) (name : List ℕ) (row : UploadRow) → row.key ≢ []
-    → Contains (upload_rows s name) row ↔ Contains (uploads_asked all_uploads s name) row
+    → Contains (upload_rows s name) row ↔ Contains (upload_rows_asked all_uploads s name) row
 all_rows s name row some = (
   λ there.
       kept_by (is_asked all_uploads) (filter (is_upload_from (At (Behind []))) (upload_rows s name)) row (is_asked_all row)

@@ -3,7 +3,7 @@ use Rattle.std.proofs.Common.{◌≡◌, ◌↔◌, refl, sym, ap, ap₂, subst,
 use Rattle.std.proofs.lemmas.Bool.Decides.{nat_tests}
 use Rattle.std.proofs.lemmas.List.{take_all}
 use Rattle.std.proofs.lemmas.Option.{same_Some}
-use Rattle.std.specs.List.{filter_map}
+use Rattle.std.specs.List.{filter_map, last_or}
 use Rattle.std.specs.Prelude.{MatchOption, option_and_then}
 use Rattle.std.specs.Result.{result_ok}
 use Rattle.s3_versions.specs.declared.picking.Facts.{Facts}
@@ -19,11 +19,13 @@ use Rattle.s3_records.specs.declared.rows.UploadRow.{UploadRow}
 use Rattle.s3_prefixes.specs.declared.asked.ObjectsAsked.{ObjectsAsked}
 use Rattle.s3_prefixes.specs.Items.{Item, Object as Told, CommonPrefix, text_of, rolled, rolled_up, common_prefix, is_asked}
 use Rattle.s3_listings.specs.declared.object_page.ListedObject.{ListedObject}
-use Rattle.s3_listings.specs.Laws.{IsToldOf, ItemsAreOfKeys, ListedAreKeys, behind, PagesJoin}
+use Rattle.s3_listings.specs.Laws.{IsToldOf, ItemsAreOfKeys, ListedAreKeys, behind, PagesJoin, PlainUploadsAreRows}
 use Rattle.s3_listings.specs.Objects.{ObjectsTold, object_in, objects_asked, objects_page, objects_told}
-use Rattle.s3_listings.specs.Pages.{Page, page_of, next_of}
+use Rattle.s3_listings.specs.Pages.{Page, page_of, last_of, next_of}
 use Rattle.s3_listings.specs.Parts.{parts_asked, parts_page}
-use Rattle.s3_listings.specs.Uploads.{uploads_asked, uploads_page}
+use Rattle.s3_listings.specs.Rolled.{RowsTold, plainly}
+use Rattle.s3_listings.specs.Uploads.{upload_rows_asked, uploads_told}
+use Rattle.s3_listings.specs.declared.row_page.RowItem.TheVariants.{Row}
 use Rattle.s3_documents.specs.Document as documents
 use Rattle.s3_machine.specs.declared.command.Command.{Command}
 use Rattle.s3_machine.specs.declared.command.Command.TheVariants as commands
@@ -54,6 +56,27 @@ within size is = grind (arith, nat_tests)
 -- a page of which nothing is left has all items
 pub none_left : {A : Type 0} (items : List A) → (page_of 1000 items).is_truncated ≡ false → take 1000 items ≡ items
 none_left items is = take_all 1000 items (within (length items) is)
+
+-- so has one that tells its rows alone, and of which none is the one behind which a next page goes on
+last_some : {A : Type 0} (item : A) (items : List A) → last_or (Some item) items ≡ None → ⊥
+last_some item [] is = absurd (cc)
+last_some item (next ∷ items) is = last_some next items is
+
+last_there : {A : Type 0} (item : A) (items : List A) → last_of (take 1000 (item ∷ items)) ≡ None → ⊥
+last_there item items is = last_some item (take 999 items) is
+
+no_row : {A : Type 0} (last : Option A) → option_map Row last ≡ None → last ≡ None
+no_row None none = refl
+no_row (Some row) none = absurd (cc)
+
+none_next : {A : Type 0} (is_truncated : Bool) (items : List A) → (page_of 1000 items).is_truncated ≡ is_truncated
+    → option_map Row (if is_truncated then last_of (take 1000 items) else None) ≡ None → take 1000 items ≡ items
+none_next is_truncated [] is none = refl
+none_next false (item ∷ items) is none = none_left (item ∷ items) is
+none_next true (item ∷ items) is none = absurd (last_there item items (no_row (last_of (take 1000 (item ∷ items))) none))
+
+pub rows_left : {A : Type 0} (items : List A) → (plainly (page_of 1000 items)).next ≡ None → take 1000 items ≡ items
+rows_left items none = none_next (page_of 1000 items).is_truncated items refl none
 
 no_text : (last : Option Item) → option_map text_of last ≡ None → last ≡ None
 no_text None is = refl
@@ -144,7 +167,7 @@ same_objects : (name : List ℕ) (asked : ObjectsAsked) (page told : ObjectsTold
     → outcomes.Told (documents.objects name asked page) ≡ outcomes.Told (documents.objects name asked told) → page ≡ told
 same_objects name asked page told is = cc
 
-same_uploads : (name : List ℕ) (page told : Page UploadRow)
+same_uploads : (name : List ℕ) (page told : RowsTold UploadRow)
     → outcomes.Told (documents.uploads name all_uploads page) ≡ outcomes.Told (documents.uploads name all_uploads told) → page ≡ told
 same_uploads name page told is = cc
 
@@ -221,17 +244,17 @@ module _ (laws : LawsOfItems) (places : ChangesAreByPlace (List ℕ)) (follow : 
 
 -- ---- uploads and parts
 
-pub uploads_are_told_while_open : EverySoundHistory UploadsAreListedWhileOpen → EverySoundHistory UploadsAreToldWhileOpen
-unfolding uploads_page
-uploads_are_told_while_open law rules s n entries sound legal before later list upload page t parts lists some =
+pub uploads_are_told_while_open : PlainUploadsAreRows (List ℕ) → EverySoundHistory UploadsAreListedWhileOpen → EverySoundHistory UploadsAreToldWhileOpen
+uploads_are_told_while_open plain law rules s n entries sound legal before later list upload page t parts lists some =
     let here = after rules s before in
     let cut = Legal-append rules s n before (list ∷ later) (subst (Legal rules s n) parts legal) in
     let outcome = command_outcome rules s n entries before later list _ legal parts lists.asks in
     let step_told = uploads_step rules here list.answer.number list.moment upload.address.bucket all_uploads
     (sym (ap succeeds outcome) ∙ ap succeeds lists.told) in
-    let same = same_uploads upload.address.bucket page (uploads_page all_uploads here upload.address.bucket) (sym lists.told ∙ outcome ∙ step_told) in
-    let given = ap (λ (p : Page UploadRow). p.given) same
-    ∙ none_left (uploads_asked all_uploads here upload.address.bucket) (sym (ap (λ (p : Page UploadRow). p.is_truncated) same) ∙ lists.is_last) in
+    let same = same_uploads upload.address.bucket page (uploads_told all_uploads here upload.address.bucket) (sym lists.told ∙ outcome ∙ step_told)
+    ∙ plain all_uploads here upload.address.bucket refl in
+    let given = ap (λ (p : RowsTold UploadRow). p.rows) same
+    ∙ rows_left (upload_rows_asked all_uploads here upload.address.bucket) (sym (ap (λ (p : RowsTold UploadRow). p.next) same) ∙ lists.is_last) in
     let row : UploadRow = record { key = upload.address.key; id = upload.id; moment = t } in
     let listed = law rules s n before sound cut.0 upload t some in (
       λ within. listed.0 (subst (λ (xs : List UploadRow). Contains xs row) given within),

@@ -25,8 +25,9 @@ use Rattle.s3_records.specs.Rows.{Held, held_in, held_of, is_from, version_row, 
 use Rattle.s3_records.specs.declared.rows.Start.TheVariants.{Behind}
 use Rattle.s3_records.specs.declared.rows.VersionRow.{VersionRow}
 use Rattle.s3_records.specs.declared.rows.VersionStart.TheVariants.{At}
-use Rattle.s3_listings.specs.Pages.{Page}
-use Rattle.s3_listings.specs.Versions.{is_asked, versions_asked, versions_page}
+use Rattle.s3_listings.specs.Laws.{PlainVersionsAreRows}
+use Rattle.s3_listings.specs.Rolled.{RowsTold}
+use Rattle.s3_listings.specs.Versions.{is_asked, version_rows_asked, versions_told}
 use Rattle.s3_documents.specs.Document as documents
 use Rattle.s3_machine.specs.declared.command.BucketCommand.TheVariants as bucket_commands
 use Rattle.s3_machine.specs.declared.command.Command.{Command}
@@ -47,7 +48,7 @@ use Rattle.s3_machine.proofs.HistoryLemmas.{Legal-append, parts_of}
 use Rattle.s3_machine.proofs.KeptLemmas.{outcome_is, picked, got, version_left, version_spared}
 use Rattle.s3_machine.proofs.ListLemmas.{facts_given, picked_facts, none_there, page_told, command_outcome}
 use Rattle.s3_machine.proofs.TellingLemmas.{kept_by, was_there, begins_empty, behind_none}
-use Rattle.s3_machine.proofs.ToldListLemmas.{none_left}
+use Rattle.s3_machine.proofs.ToldListLemmas.{rows_left}
 
 -- ---- lists
 
@@ -224,7 +225,7 @@ at_any e row true within = within
 at_any e row false within = absurd (nothing_in [] row refl within)
 
 all_rows : (s : State) (name : List ℕ) (row : VersionRow) → row.key ≢ []
-    → Contains (versions_asked all_versions s name) row ↔ Contains (version_rows s name) row
+    → Contains (version_rows_asked all_versions s name) row ↔ Contains (version_rows s name) row
 all_rows s name row some =
     let from = rows_at {B = List ℕ} (At (Behind [])) in (
       λ within.
@@ -263,11 +264,11 @@ reads_facts rules s n t _ a id is = absurd (cc)
 versions_step : (rules : Rules) (s : State) (n t : ℕ) (name : List ℕ)
     → succeeds (step rules s n t (commands.Bucket name (bucket_commands.ListVersions all_versions))).1 ≡ true
     → (step rules s n t (commands.Bucket name (bucket_commands.ListVersions all_versions))).1
-    ≡ outcomes.Told (documents.versions name all_versions (versions_page all_versions s name))
+    ≡ outcomes.Told (documents.versions name all_versions (versions_told all_versions s name))
 unfolding done bucket_done
 versions_step rules s n t name success = page_told s (not (has_bucket s name)) _ success
 
-same_versions : (name : List ℕ) (page told : Page VersionRow)
+same_versions : (name : List ℕ) (page told : RowsTold VersionRow)
     → outcomes.Told (documents.versions name all_versions page) ≡ outcomes.Told (documents.versions name all_versions told) → page ≡ told
 same_versions name page told is = cc
 
@@ -279,10 +280,10 @@ pub record LawsOfVersions : Type 0 where
   pub ids : IdsAreTold (List ℕ)
   pub held : HeldIsGot (List ℕ)
   pub leaves : HistoriesLeaveSound
+  pub plain : PlainVersionsAreRows (List ℕ)
 
 module _ (laws : LawsOfVersions) (places : ChangesAreByPlace (List ℕ)) (follow : FollowRules) where
   pub versions_are_told_as_read : EverySoundHistory VersionsAreToldAsRead
-  unfolding versions_page
   versions_are_told_as_read rules s n entries sound legal before between later list read address id page facts parts lists some spares reading =
       let at = parts_of rules s n entries before between later list read legal parts in
       let split = parts ∙ append_assoc before (list ∷ between) (read ∷ later) in
@@ -294,9 +295,9 @@ module _ (laws : LawsOfVersions) (places : ChangesAreByPlace (List ℕ)) (follow
       let key = address.key in
       let outcome = command_outcome rules s n entries before (between ++ read ∷ later) list _ legal split lists.asks in
       let step_told = versions_step rules here list.answer.number list.moment name (sym (ap succeeds outcome) ∙ ap succeeds lists.told) in
-      let same = same_versions name page (versions_page all_versions here name) (sym lists.told ∙ outcome ∙ step_told) in
-      let given = ap (λ (p : Page VersionRow). p.given) same
-      ∙ none_left (versions_asked all_versions here name) (sym (ap (λ (p : Page VersionRow). p.is_truncated) same) ∙ lists.is_last) in
+      let same = same_versions name page (versions_told all_versions here name) (sym lists.told ∙ outcome ∙ step_told) ∙ laws.plain all_versions here name refl in
+      let given = ap (λ (p : RowsTold VersionRow). p.rows) same
+      ∙ rows_left (version_rows_asked all_versions here name) (sym (ap (λ (p : RowsTold VersionRow). p.next) same) ∙ lists.is_last) in
       let ordered = (laws.leaves rules s n before sound cut.0).ordered name key in
       let told = told_there laws.one laws.ids key (versions_at here address) id facts ordered in
       let kept : version_at there name key id ≡ version_at here name key id =

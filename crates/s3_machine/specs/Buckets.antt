@@ -1,8 +1,8 @@
--- What becomes of a bucket: it isn't dropped while something is in it, and its versioning is told as it was set (Amazon S3 API
--- Reference, CreateBucket, DeleteBucket, PutBucketVersioning and GetBucketVersioning).
-use Rattle.std.specs.Prelude.{◌≡◌, ◌≢◌, ◌⊎◌, ℕ, true, false, IsTrue, List, [], ◌∷◌, ◌++◌, Option, Some, None}
+-- What becomes of a bucket: it isn't dropped while something is in it, its versioning is told as it was set, and so is the region
+-- that it is in (Amazon S3 API Reference, CreateBucket, HeadBucket, DeleteBucket, PutBucketVersioning and GetBucketVersioning).
+use Rattle.std.specs.Prelude.{◌≡◌, ◌≢◌, ◌⊎◌, ℕ, true, false, IsTrue, List, [], ◌∷◌, ◌++◌, if◌then◌else◌, Option, Some, None}
 use Rattle.std.specs.List.{AllByRecursion}
-use Rattle.s3_terms.specs.declared.code.Code.TheVariants.{BucketNotEmpty}
+use Rattle.s3_terms.specs.declared.code.Code.TheVariants.{BucketNotEmpty, NoSuchBucket}
 use Rattle.s3_versions.specs.declared.version.Versioning.TheVariants.{Unversioned}
 use Rattle.s3_versions.specs.declared.version.VersioningStatus.{VersioningStatus}
 use Rattle.s3_versions.specs.Rules.{versioning_set}
@@ -36,6 +36,11 @@ sets_versioning other = None
 abbrev pub asks_versioning : Command → Option (List ℕ)
 asks_versioning (commands.Bucket name bucket_commands.GetVersioning) = Some name
 asks_versioning other = None
+
+-- the bucket that a command looks for
+abbrev pub finds_bucket : Command → Option (List ℕ)
+finds_bucket (commands.Bucket name bucket_commands.Head) = Some name
+finds_bucket other = None
 
 -- something is in the bucket: a version or a delete marker under some key, or an upload that is open
 abbrev pub HasSomething : State → List ℕ → Type 0
@@ -100,3 +105,12 @@ module _ (rules : Rules) (s : State) (entries : List Entry) where
       → LeavesVersioning name between
       → asks_versioning ask.command ≡ Some name
       → ask.answer.outcome ≡ outcomes.BucketVersioning Unversioned
+
+  -- Who looks for a bucket that is there is told the region of the server's rules, and who looks for another one that it isn't.
+  abbrev pub RegionIsTold : Type 0
+  RegionIsTold =
+      (before later : List Entry) (find : Entry) (name : List ℕ)
+      → entries ≡ before ++ find ∷ later
+      → finds_bucket find.command ≡ Some name
+      → find.answer.outcome
+      ≡ if has_bucket (after rules s before) name then outcomes.BucketFound rules.region else outcomes.Refused NoSuchBucket false

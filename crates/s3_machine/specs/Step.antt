@@ -32,8 +32,8 @@ use Rattle.s3_records.specs.Deletions.{all_deleted, markers_of}
 use Rattle.s3_records.specs.OpenUploads.{upload_at}
 use Rattle.s3_listings.specs.Objects.{objects_told}
 use Rattle.s3_listings.specs.Parts.{parts_page}
-use Rattle.s3_listings.specs.Uploads.{uploads_page}
-use Rattle.s3_listings.specs.Versions.{versions_page}
+use Rattle.s3_listings.specs.Uploads.{uploads_told}
+use Rattle.s3_listings.specs.Versions.{versions_told}
 use Rattle.s3_documents.specs.Document as documents
 use Rattle.s3_machine.specs.declared.command.BucketCommand.{BucketCommand}
 use Rattle.s3_machine.specs.declared.command.BucketCommand.TheVariants as bucket_commands
@@ -200,7 +200,7 @@ bucket_done rules s t name bucket_commands.Create = do
   Ok (changed s name (BucketAdded t), outcomes.BucketMade name)
 bucket_done rules s t name bucket_commands.Head = do
   refuse (not (has_bucket s name)) NoSuchBucket
-  Ok (s, outcomes.BucketFound)
+  Ok (s, outcomes.BucketFound rules.region)
 bucket_done rules s t name bucket_commands.Delete = do
   refuse (not (has_bucket s name)) NoSuchBucket
   refuse (not (is_empty_bucket s name)) BucketNotEmpty
@@ -222,10 +222,10 @@ bucket_done rules s t name (bucket_commands.ListObjects asked) = do
   Ok (s, outcomes.Told (documents.objects name asked (objects_told asked (key_rows s name))))
 bucket_done rules s t name (bucket_commands.ListVersions asked) = do
   refuse (not (has_bucket s name)) NoSuchBucket
-  Ok (s, outcomes.Told (documents.versions name asked (versions_page asked s name)))
+  Ok (s, outcomes.Told (documents.versions name asked (versions_told asked s name)))
 bucket_done rules s t name (bucket_commands.ListUploads asked) = do
   refuse (not (has_bucket s name)) NoSuchBucket
-  Ok (s, outcomes.Told (documents.uploads name asked (uploads_page asked s name)))
+  Ok (s, outcomes.Told (documents.uploads name asked (uploads_told asked s name)))
 
 -- the upload that begins at moment t
 abbrev pub upload_begun : ℕ → Description → Upload (List ℕ)

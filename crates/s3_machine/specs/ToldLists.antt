@@ -15,6 +15,7 @@ use Rattle.s3_prefixes.specs.declared.asked.ObjectsAsked.{ObjectsAsked}
 use Rattle.s3_prefixes.specs.Items.{Object, is_asked, is_behind_token}
 use Rattle.s3_listings.specs.Objects.{ObjectsTold}
 use Rattle.s3_listings.specs.Pages.{Page}
+use Rattle.s3_listings.specs.Rolled.{RowsTold}
 use Rattle.s3_documents.specs.Document as documents
 use Rattle.s3_machine.specs.declared.command.BucketCommand.TheVariants as bucket_commands
 use Rattle.s3_machine.specs.declared.command.Command.TheVariants as commands
@@ -46,13 +47,13 @@ IsWanted asked key facts = IsTrue (is_asked asked key) × IsTrue (is_behind_toke
 
 -- a list of all versions of a bucket
 abbrev pub all_versions : VersionsAsked
-all_versions = record { prefix = []; key_marker = []; id_marker = None; max_keys = 1000; is_url_encoded = false }
+all_versions = record { prefix = []; delimiter = []; key_marker = []; id_marker = None; max_keys = 1000; is_url_encoded = false }
 
 -- the entry lists all versions of the bucket, and is told this page, behind which there are no more
-pub record ListsVersions (bucket : List ℕ) (page : Page VersionRow) (e : Entry) : Type 0 where
+pub record ListsVersions (bucket : List ℕ) (page : RowsTold VersionRow) (e : Entry) : Type 0 where
   pub asks : e.command ≡ commands.Bucket bucket (bucket_commands.ListVersions all_versions)
   pub told : e.answer.outcome ≡ outcomes.Told (documents.versions bucket all_versions page)
-  pub is_last : page.is_truncated ≡ false
+  pub is_last : page.next ≡ None
 
 -- what is told of a version that is an object with these facts
 abbrev pub told_row : List ℕ → VersionId → Bool → Facts → VersionRow
@@ -60,10 +61,10 @@ told_row key id is_latest facts =
     record { key = key; id = id; is_latest = is_latest; moment = facts.moment; facts = Some facts }
 
 -- the same of all uploads
-pub record ListsUploads (bucket : List ℕ) (page : Page UploadRow) (e : Entry) : Type 0 where
+pub record ListsUploads (bucket : List ℕ) (page : RowsTold UploadRow) (e : Entry) : Type 0 where
   pub asks : e.command ≡ commands.Bucket bucket (bucket_commands.ListUploads all_uploads)
   pub told : e.answer.outcome ≡ outcomes.Told (documents.uploads bucket all_uploads page)
-  pub is_last : page.is_truncated ≡ false
+  pub is_last : page.next ≡ None
 
 -- and of all parts of an upload
 pub record ListsParts (upload : UploadPlace) (page : Page PartRow) (e : Entry) : Type 0 where
@@ -89,7 +90,7 @@ module _ (rules : Rules) (s : State) (entries : List Entry) where
       → entries ≡ before ++ list ∷ later
       → list.command ≡ commands.Bucket name (bucket_commands.ListVersions asked)
       → IsTrue (has_bucket (after rules s before) name)
-      → (page : Page VersionRow) × (list.answer.outcome ≡ outcomes.Told (documents.versions name asked page))
+      → (page : RowsTold VersionRow) × (list.answer.outcome ≡ outcomes.Told (documents.versions name asked page))
 
   -- and of its uploads,
   abbrev pub UploadListsAreTold : Type 0
@@ -98,7 +99,7 @@ module _ (rules : Rules) (s : State) (entries : List Entry) where
       → entries ≡ before ++ list ∷ later
       → list.command ≡ commands.Bucket name (bucket_commands.ListUploads asked)
       → IsTrue (has_bucket (after rules s before) name)
-      → (page : Page UploadRow) × (list.answer.outcome ≡ outcomes.Told (documents.uploads name asked page))
+      → (page : RowsTold UploadRow) × (list.answer.outcome ≡ outcomes.Told (documents.uploads name asked page))
 
   -- and one of the parts of an upload that is open.
   abbrev pub PartListsAreTold : Type 0
@@ -127,24 +128,24 @@ module _ (rules : Rules) (s : State) (entries : List Entry) where
   -- where a plain read of it by its id is given a version with these, before an entry touches it (no key is empty).
   abbrev pub VersionsAreToldAsRead : Type 0
   VersionsAreToldAsRead =
-      (before between later : List Entry) (list read : Entry) (address : Address) (id : VersionId) (page : Page VersionRow) (facts : Facts)
+      (before between later : List Entry) (list read : Entry) (address : Address) (id : VersionId) (page : RowsTold VersionRow) (facts : Facts)
       → entries ≡ before ++ list ∷ between ++ read ∷ later
       → ListsVersions address.bucket page list
       → address.key ≢ []
       → SparesVersion address id between
       → ReadsVersion address id read
-      → ((is_latest : Bool) × Contains page.given (told_row address.key id is_latest facts))
+      → ((is_latest : Bool) × Contains page.rows (told_row address.key id is_latest facts))
       ↔ (option_map facts_found (given_whole read.answer.outcome) ≡ Some facts)
 
   -- From a sound base an upload is told in a list of all uploads of its bucket, with the moment at which it was begun, exactly
   -- where it is open (no key is empty).
   abbrev pub UploadsAreToldWhileOpen : Type 0
   UploadsAreToldWhileOpen =
-      (before later : List Entry) (list : Entry) (upload : UploadPlace) (page : Page UploadRow) (t : ℕ)
+      (before later : List Entry) (list : Entry) (upload : UploadPlace) (page : RowsTold UploadRow) (t : ℕ)
       → entries ≡ before ++ list ∷ later
       → ListsUploads upload.address.bucket page list
       → upload.address.key ≢ []
-      → Contains page.given (record { key = upload.address.key; id = upload.id; moment = t })
+      → Contains page.rows (record { key = upload.address.key; id = upload.id; moment = t })
       ↔ ((asked : Description) × (WasBegun before upload t asked ⊎ StayedOpen s before upload t asked))
 
   -- So is a part in a list of all parts of its upload, exactly where it stands (no number is 0).

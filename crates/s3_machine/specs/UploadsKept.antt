@@ -12,7 +12,7 @@ use Rattle.s3_records.specs.OpenUploads.{parts_at}
 use Rattle.s3_listings.specs.declared.asked.PartsAsked.{PartsAsked}
 use Rattle.s3_listings.specs.declared.asked.UploadsAsked.{UploadsAsked}
 use Rattle.s3_listings.specs.Parts.{parts_asked}
-use Rattle.s3_listings.specs.Uploads.{uploads_asked}
+use Rattle.s3_listings.specs.Uploads.{upload_rows_asked}
 use Rattle.s3_documents.specs.Document as documents
 use Rattle.s3_machine.specs.declared.command.Outcome.TheVariants as outcomes
 use Rattle.s3_machine.specs.declared.command.CopyRange.{CopyRange}
@@ -26,12 +26,12 @@ use Rattle.s3_machine.specs.Uploads.{Sends, Completes, WasBegun, WasSent, IsOpen
 
 -- a list of all uploads of a bucket
 abbrev pub all_uploads : UploadsAsked
-all_uploads = record { prefix = []; key_marker = []; id_marker = None; max_uploads = 1000; is_url_encoded = false }
+all_uploads = record { prefix = []; delimiter = []; key_marker = []; id_marker = None; max_uploads = 1000; is_url_encoded = false }
 
 -- the upload is listed as one of this moment, among all of its bucket
 abbrev pub IsUploadListed : State → UploadPlace → ℕ → Type 0
 IsUploadListed s upload t =
-    Contains (uploads_asked all_uploads s upload.address.bucket) (record { key = upload.address.key; id = upload.id; moment = t })
+    Contains (upload_rows_asked all_uploads s upload.address.bucket) (record { key = upload.address.key; id = upload.id; moment = t })
 
 -- a list of all parts of an upload
 abbrev pub all_parts : PartsAsked

@@ -1,6 +1,6 @@
 //! What is known of buckets in all histories: laws, with nothing to run.
 ghost use Rattle.s3_machine.specs.Bases.{EverySoundHistory};
-ghost use Rattle.s3_machine.specs.Buckets.{FullBucketsStay, EmptyBucketsAreDropped, VersioningIsTold, NewBucketsAreUnversioned};
+ghost use Rattle.s3_machine.specs.Buckets.{FullBucketsStay, EmptyBucketsAreDropped, VersioningIsTold, NewBucketsAreUnversioned, RegionIsTold};
 ghost use Rattle.s3_machine.specs.Kept.{EveryHistory};
 
 use crate::history::histories_leave_sound_bases;
@@ -28,3 +28,9 @@ pub fn versioning_is_told()
 {
     deletions_are_by_place::<Body>();
 }
+
+/// A law, with nothing to run: in a legal history who looks for a bucket is told the region of the server's rules where it is there,
+/// and is refused with NoSuchBucket where it isn't.
+pub fn region_is_told()
+    ensures { EveryHistory RegionIsTold }
+{}

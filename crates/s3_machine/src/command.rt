@@ -1,6 +1,6 @@
 //! What takes a turn at the machine, and what it is answered.
 
-use crate::{Configuration, Overrides};
+use crate::{Configuration, Overrides, Region};
 use s3_bodies::{Body, Payload};
 use s3_calendar::Moment;
 use s3_conditions::{Conditions, Selection, TagList};
@@ -200,8 +200,10 @@ pub enum Outcome {
     BucketMade {
         name: BucketName,
     },
-    /// The bucket is there.
-    BucketFound,
+    /// The bucket is there, in this region.
+    BucketFound {
+        region: Region,
+    },
     /// The bucket is dropped.
     BucketDropped,
     /// The bucket's versioning is set.

@@ -14,10 +14,11 @@ mod ids;
 mod laws;
 mod list_laws;
 mod overrides;
+mod region;
 mod rules;
 mod turn;
 
-pub use bucket_laws::{full_buckets_stay, versioning_is_told};
+pub use bucket_laws::{full_buckets_stay, region_is_told, versioning_is_told};
 pub use command::{
     Answer, BucketCommand, Command, CopyRange, Description, Found, KeyCommand, ObjectCopy,
     ObjectPut, ObjectRead, Outcome, PartCopy, Source, UploadCommand, WriteCondition,
@@ -41,5 +42,6 @@ pub use laws::{
 };
 pub use list_laws::{lists_are_told, lists_tell_what_is_there};
 pub use overrides::Overrides;
-pub use rules::{Rules, region_of};
+pub use region::Region;
+pub use rules::Rules;
 pub use turn::Turn;

@@ -5,7 +5,7 @@ ghost use Rattle.s3_machine.specs.ToldLists.{ObjectListsAreTold, VersionListsAre
 
 use crate::history::{histories_leave_sound_bases, parts_are_kept, uploads_are_open_until_ended};
 use s3_bodies::Body;
-use s3_listings::{items_are_distinct, listed_keys_are_read, pages_join};
+use s3_listings::{items_are_distinct, listed_keys_are_read, pages_join, plain_lists_are_rows};
 use s3_records::{changes_are_by_place, changes_follow_rules, held_is_got, keys_rise};
 use s3_versions::ids_differ;
 
@@ -38,6 +38,7 @@ pub fn lists_tell_what_is_there()
     keys_rise::<Body>();
     listed_keys_are_read::<Body>();
     pages_join();
+    plain_lists_are_rows::<Body>();
     parts_are_kept();
     uploads_are_open_until_ended();
 }

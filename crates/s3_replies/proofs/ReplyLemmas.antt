@@ -11,6 +11,7 @@ use Rattle.s3_text.specs.Digits.{number_digits}
 use Rattle.s3_terms.specs.Code.{status_of}
 use Rattle.s3_terms.specs.declared.code.Code.{Code}
 use Rattle.s3_terms.specs.declared.code.Code.TheVariants.{MalformedHead}
+use Rattle.s3_terms.specs.declared.dialect.Dialect.TheVariants.{S3}
 use Rattle.s3_terms.specs.Status.{tells_size}
 use Rattle.s3_terms.specs.declared.status.Status.{Status}
 use Rattle.s3_terms.specs.declared.status.Status.TheVariants as statuses
@@ -22,16 +23,16 @@ use Rattle.s3_conditions.specs.declared.conditions.Selection.TheVariants.{Whole,
 use Rattle.s3_machine.specs.declared.command.Answer.{Answer}
 use Rattle.s3_machine.specs.declared.command.Found.{Found}
 use Rattle.s3_machine.specs.declared.command.Outcome.{Outcome}
-use Rattle.s3_machine.specs.declared.command.Outcome.TheVariants.{Got, Refused}
+use Rattle.s3_machine.specs.declared.command.Outcome.TheVariants.{BucketFound, Got, Refused}
 use Rattle.s3_replies.specs.declared.context.Context.{Context}
 use Rattle.s3_replies.specs.declared.head.Opening.{Opening}
 use Rattle.s3_replies.specs.Lines.{Line, status_line, print_line, print_lines, flag, optional, metadata_line, is_overridden, entries_left, type_left, quoted}
 use Rattle.s3_replies.specs.Date.{IsHttpDate, IsDateShown}
-use Rattle.s3_replies.specs.Head.{bare, opening_lines, version_lines, print_head}
-use Rattle.s3_replies.specs.Replies.{Reply, alone, beside, behind, front, back, reply_to, shown_at, opening_of, Prints, content_range, got_fields, metadata_shown, part, part_fields, sent_body, sized, shown_text, status_in}
+use Rattle.s3_replies.specs.Head.{bare, body_lines, opening_lines, version_lines, print_head, print_with_lines}
+use Rattle.s3_replies.specs.Replies.{Reply, alone, beside, behind, front, back, reply_to, shown_at, opening_of, Prints, content_range, found_fields, got_fields, metadata_shown, part, part_fields, region_told, sent_body, sized, shown_text, status_in}
 use Rattle.s3_replies.specs.Statuses.{reply_status}
-use Rattle.s3_replies.specs.Laws.{AreUnbroken, Carries, CarriesPart, IsUnbroken, is_unbroken, is_whole_line, tells_success, SuccessIsShown, ObjectsAreCarried, PartsAreCarried, HeadsTellOfReplies}
-use Rattle.s3_replies.proofs.UnbrokenLemmas.{both_true, joined, lines_joined, number_unbroken, id_unbroken, date_unbroken, range_unbroken}
+use Rattle.s3_replies.specs.Laws.{AreUnbroken, Carries, CarriesPart, IsUnbroken, is_unbroken, is_whole_line, tells_success, SuccessIsShown, ObjectsAreCarried, PartsAreCarried, RegionsAreTold, TellsRegion, HeadsTellOfReplies}
+use Rattle.s3_replies.proofs.UnbrokenLemmas.{both_true, joined, lines_joined, decimal_unbroken, number_unbroken, id_unbroken, date_unbroken, range_unbroken}
 use Rattle.httpdate.specs.Text.{imf_fixdate}
 use Rattle.httpdate.proofs.Theorems.{unix_secs_injective}
 
@@ -167,8 +168,9 @@ version_unbroken opening found overrides modified unbroken since =
     let quotes : is_unbroken (quoted found.stored.tag) ≡ true = joined found.stored.tag (34 ∷ []) unbroken.tag refl in
     let no_source = lines_joined id [] (id_line_unbroken found.shown) refl in
     let no_marker = lines_joined (id ++ []) [] no_source refl in
-    let no_place = lines_joined (id ++ [] ++ []) [] no_marker refl in
-    lines_joined (id ++ [] ++ [] ++ [] ++ tag) made (lines_joined (id ++ [] ++ [] ++ []) tag no_place (rw quotes refl)) (rw since refl)
+    let no_region = lines_joined (id ++ [] ++ []) [] no_marker refl in
+    let no_place = lines_joined (id ++ [] ++ [] ++ []) [] no_region refl in
+    lines_joined (id ++ [] ++ [] ++ [] ++ [] ++ tag) made (lines_joined (id ++ [] ++ [] ++ [] ++ []) tag no_place (rw quotes refl)) (rw since refl)
 
 -- the line that tells of its type, where it is told
 type_unbroken : (overridden : Bool) (kind : List ℕ) → is_unbroken kind ≡ true
@@ -298,6 +300,59 @@ parts_are_carried answer context text found overrides first last prints gives un
     (got.printed
     ∙ ap (λ b. print_head (sized (part_fields opening found overrides got.modified first last) bytes) ++ b) sent
     ∙ ap (λ m. print_head (sized (part_fields opening found overrides m first last) bytes) ++ bytes) made.2)
+
+-- ---- who looks for a bucket is told its region
+
+-- the lines that tell it, and that nothing stands behind them
+abbrev region_lines : List ℕ → List Line
+region_lines region = (codes "x-amz-bucket-region", region) ∷ (codes "Content-Length", decimal 0) ∷ []
+
+-- an opening that says so
+abbrev as_found : Opening → Opening
+as_found opening = record opening { status = statuses.Ok; dialect = S3 }
+
+is_as_found : (opening : Opening) → opening.status ≡ statuses.Ok → opening.dialect ≡ S3 → opening ≡ as_found opening
+is_as_found opening status is =
+    ap (λ s. record opening { status = s }) status ∙ ap (λ d. record opening { status = statuses.Ok; dialect = d }) is
+
+lines_there : (opening : Opening) (region : List ℕ)
+    → version_lines (found_fields (as_found opening) region) ++ body_lines (found_fields (as_found opening) region) ≡ region_lines region
+lines_there opening region = refl
+
+printed_there : (opening : Opening) (region : List ℕ)
+    → print_head (found_fields (as_found opening) region)
+    ≡ print_with_lines statuses.Ok (opening_lines (bare opening) ++ region_lines region)
+unfolding print_head
+printed_there opening region =
+    let head = found_fields (as_found opening) region in
+    ap (print_with_lines statuses.Ok)
+    (append_assoc (opening_lines (bare opening)) (version_lines head) (body_lines head)
+    ∙ ap (λ (x : List Line). opening_lines (bare opening) ++ x) (lines_there opening region))
+
+found_printed : (opening : Opening) (region : List ℕ) → opening.status ≡ statuses.Ok → opening.dialect ≡ S3
+    → print_head (found_fields opening region)
+    ≡ status_line statuses.Ok ++ print_lines (opening_lines (bare opening) ++ region_lines region) ++ crlf
+found_printed opening region status is =
+    ap (λ (o : Opening). print_head (found_fields o region)) (is_as_found opening status is) ∙ printed_there opening region
+
+found_tells : (opening : Opening) (region text : List ℕ) → opening.status ≡ statuses.Ok → opening.dialect ≡ S3
+    → is_unbroken opening.date ≡ true → is_unbroken region ≡ true → text ≡ print_head (found_fields opening region) ++ []
+    → TellsRegion region text
+unfolding status_line digits
+found_tells opening region text status is at unbroken printed =
+    let first = opening_lines (bare opening) in
+    record {
+      lines = first ++ region_lines region;
+      whole = lines_joined first (region_lines region) (opening_unbroken opening at) (rw (unbroken, decimal_unbroken 0) refl);
+      told = Contains-append_right first (region_lines region) (codes "x-amz-bucket-region", region) (0, omega arith, refl);
+      printed = printed ∙ append-nil (print_head (found_fields opening region)) ∙ found_printed opening region status is;
+    }
+
+pub regions_are_told : RegionsAreTold
+regions_are_told answer context text region prints found unbroken is =
+    let told = printed_as answer context text (BucketFound region) prints found in
+    found_tells (opening_of answer.number context told.date (BucketFound region)) region text refl is
+    (date_is_unbroken context.moment told.date told.dated) unbroken told.printed
 
 -- what a HEAD leaves out
 abbrev left_out : Reply → List ℕ

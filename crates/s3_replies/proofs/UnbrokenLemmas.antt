@@ -69,7 +69,7 @@ more_digits_unbroken (suc k) n rest are =
     either_unbroken (n / 10 == 0) (digit_glyph false (n % 10) ∷ rest) (digits_onto k 10 false (n / 10) (digit_glyph false (n % 10) ∷ rest))
     more (more_digits_unbroken k (n / 10) (digit_glyph false (n % 10) ∷ rest) more)
 
-decimal_unbroken : (n : ℕ) → is_unbroken (decimal n) ≡ true
+pub decimal_unbroken : (n : ℕ) → is_unbroken (decimal n) ≡ true
 unfolding digits
 decimal_unbroken n = more_digits_unbroken 64 n [] refl
 

@@ -24,6 +24,8 @@ pub record Fields : Type 0 where
   -- the id of the version that was copied
   pub source_version_id : Option (List ℕ)
   pub is_delete_marker : Bool
+  -- the region of a bucket
+  pub region : Option (List ℕ)
   pub location : Option (List ℕ)
   -- the tag, without its double quotes
   pub tag : Option (List ℕ)
@@ -47,6 +49,7 @@ fields_of head = record {
   version_id = value_of head.version_id;
   source_version_id = value_of head.source_version_id;
   is_delete_marker = head.is_delete_marker;
+  region = value_of head.region;
   location = value_of head.location;
   tag = value_of head.tag;
   modified = value_of head.modified;
@@ -67,6 +70,7 @@ bare opening = record {
   version_id = None;
   source_version_id = None;
   is_delete_marker = false;
+  region = None;
   location = None;
   tag = None;
   modified = None;
@@ -92,6 +96,7 @@ version_lines head =
     optional (codes "x-amz-version-id") head.version_id
     ++ optional (codes "x-amz-copy-source-version-id") head.source_version_id
     ++ flag (codes "x-amz-delete-marker") (codes "true") head.is_delete_marker
+    ++ optional (codes "x-amz-bucket-region") head.region
     ++ optional (codes "Location") head.location
     ++ optional (codes "ETag") (option_map quoted head.tag)
     ++ optional (codes "Last-Modified") head.modified
@@ -118,6 +123,7 @@ pub record HasRoomFor (head : Fields) : Type 0 where
   pub date : length head.date ≤ 29
   pub version_id : value_length head.version_id ≤ 17
   pub source_version_id : value_length head.source_version_id ≤ 17
+  pub region : value_length head.region ≤ 64
   pub location : value_length head.location ≤ 64
   pub tag : value_length head.tag ≤ 40
   pub modified : value_length head.modified ≤ 29
@@ -126,12 +132,13 @@ pub record HasRoomFor (head : Fields) : Type 0 where
   pub metadata : metadata_size head.metadata ≤ 6_656
   pub metadata_count : length head.metadata ≤ 70
 
--- how many bytes the lines that tell of a bucket, an object or its version take at most: 20, 32, 12, 10 and 17 beside the values of
--- `x-amz-version-id`, `x-amz-copy-source-version-id`, `Location`, `ETag` and `Last-Modified`, where these are there, and 27 for
--- `x-amz-delete-marker`
+-- how many bytes the lines that tell of a bucket, an object or its version take at most: 20, 32, 23, 12, 10 and 17 beside the values
+-- of `x-amz-version-id`, `x-amz-copy-source-version-id`, `x-amz-bucket-region`, `Location`, `ETag` and `Last-Modified`, where these
+-- are there, and 27 for `x-amz-delete-marker`
 abbrev pub version_room : Fields → ℕ
 version_room head =
-    room_with 20 head.version_id + room_with 32 head.source_version_id + 27 + room_with 12 head.location + room_with 10 head.tag + room_with 17 head.modified
+    room_with 20 head.version_id + room_with 32 head.source_version_id + 27 + room_with 23 head.region + room_with 12 head.location
+    + room_with 10 head.tag + room_with 17 head.modified
 
 -- how many bytes the lines that tell of a body take at most: 22 for `Accept-Ranges`, 17 and 16 beside the values of
 -- `Content-Range` and `Content-Type`, where these are there, 4 beside the name and the value of an entry of metadata, 38 for `Content-Length`

@@ -7,6 +7,7 @@ use Rattle.std.specs.Str.{bytes_eq}
 use Rattle.s3_text.specs.Characters.{crlf, carriage_return}
 use Rattle.s3_terms.specs.declared.code.Code.{Code}
 use Rattle.s3_terms.specs.declared.dialect.Dialect.{Dialect}
+use Rattle.s3_terms.specs.declared.dialect.Dialect.TheVariants.{S3}
 use Rattle.s3_names.specs.Tags.{tag_text}
 use Rattle.s3_conditions.specs.declared.conditions.Selection.TheVariants.{Whole, Part}
 use Rattle.s3_versions.specs.declared.version.Data.{Data}
@@ -14,7 +15,7 @@ use Rattle.s3_versions.specs.Metadata.{Entry}
 use Rattle.s3_machine.specs.Effects.{succeeds}
 use Rattle.s3_machine.specs.declared.command.Answer.{Answer}
 use Rattle.s3_machine.specs.declared.command.Found.{Found}
-use Rattle.s3_machine.specs.declared.command.Outcome.TheVariants.{Got}
+use Rattle.s3_machine.specs.declared.command.Outcome.TheVariants.{BucketFound, Got}
 use Rattle.s3_replies.specs.declared.context.Context.{Context}
 use Rattle.s3_replies.specs.Lines.{Line, print_line, print_lines, metadata_line}
 use Rattle.s3_replies.specs.Replies.{Prints, PrintsRefusal, content_range, part}
@@ -71,6 +72,13 @@ pub record CarriesPart (first last : ℕ) (body reply : List ℕ) : Type 0 where
       ++ crlf
       ++ part first last body
 
+-- the reply has the status 200; a line tells the region of a bucket, and nothing stands behind the first empty line
+pub record TellsRegion (region reply : List ℕ) : Type 0 where
+  pub lines : List Line
+  pub whole : IsTrue (list_all is_whole_line lines)
+  pub told : Contains lines (codes "x-amz-bucket-region", region)
+  pub printed : reply ≡ codes "HTTP/1.1 200 OK" ++ crlf ++ print_lines lines ++ crlf
+
 -- a tag has no carriage return, whether of bytes that were put whole or of so many parts that were joined
 abbrev pub TagsAreUnbroken : Type 0
 TagsAreUnbroken = (digest : List ℕ) (parts : Option ℕ) → is_unbroken (tag_text digest parts) ≡ true
@@ -105,6 +113,12 @@ PartsAreCarried =
     → Prints answer context text
     → answer.outcome ≡ Got found (Part first last) overrides → IsUnbroken found.stored → AreUnbroken overrides → context.head_only ≡ false
     → CarriesPart first last found.stored.body text
+
+-- in the dialect of S3 the region of a bucket that is there is told
+abbrev pub RegionsAreTold : Type 0
+RegionsAreTold =
+    (answer : Answer) (context : Context) (text region : List ℕ) → Prints answer context text
+    → answer.outcome ≡ BucketFound region → is_unbroken region ≡ true → context.dialect ≡ S3 → TellsRegion region text
 
 -- the reply to a HEAD is the one that any other request would get, without its body (RFC 9110, section 9.3.2)
 abbrev pub HeadsTellOfReplies : Type 0

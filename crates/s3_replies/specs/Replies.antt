@@ -62,6 +62,15 @@ shown_text shown = option_map version_id_text shown
 abbrev pub made_fields : Opening → List ℕ → Fields
 made_fields opening name = let base = bare opening in record base { location = Some (codes "/" ++ name) }
 
+-- what is told of a bucket's region: in the dialect of S3 its name (Amazon S3 API Reference, HeadBucket, `x-amz-bucket-region`)
+abbrev pub region_told : Dialect → List ℕ → Option (List ℕ)
+region_told Json region = None
+region_told S3 region = Some region
+
+-- HeadBucket: where the bucket is
+abbrev pub found_fields : Opening → List ℕ → Fields
+found_fields opening region = let base = bare opening in record base { region = region_told opening.dialect region }
+
 -- the lists, GetBucketVersioning and CreateMultipartUpload: a document
 abbrev pub document_fields : Opening → Fields
 document_fields opening = let base = bare opening in record base { content_type = Some (content_type_in opening.dialect) }
@@ -172,7 +181,7 @@ reply_with opening modified found overrides Outside = outside_reply opening foun
 abbrev pub reply_to : Opening → Option (List ℕ) → Outcome → Reply
 reply_to opening modified (outcomes.Told document) = behind (document_fields opening) (document_text opening.dialect document)
 reply_to opening modified (outcomes.BucketMade name) = alone (made_fields opening name)
-reply_to opening modified outcomes.BucketFound = alone (bare opening)
+reply_to opening modified (outcomes.BucketFound region) = alone (found_fields opening region)
 reply_to opening modified outcomes.BucketDropped = alone (bare opening)
 reply_to opening modified outcomes.VersioningSet = alone (bare opening)
 reply_to opening modified (outcomes.BucketVersioning versioning) = beside (document_fields opening) (document_text opening.dialect (documents.versioning versioning))

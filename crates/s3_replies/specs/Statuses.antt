@@ -19,7 +19,7 @@ status_with Outside = statuses.RangeNotSatisfiable
 abbrev pub reply_status : Outcome → Status
 reply_status (outcomes.Told document) = statuses.Ok
 reply_status (outcomes.BucketMade name) = statuses.Ok
-reply_status outcomes.BucketFound = statuses.Ok
+reply_status (outcomes.BucketFound region) = statuses.Ok
 reply_status outcomes.BucketDropped = statuses.NoContent
 reply_status outcomes.VersioningSet = statuses.Ok
 reply_status (outcomes.BucketVersioning versioning) = statuses.Ok

@@ -15,7 +15,7 @@ use s3_text::number_digits;
 use s3_versions::MetadataEntry;
 
 /// No head is longer.
-pub(crate) const HEAD_MAX: usize = 7_776;
+pub(crate) const HEAD_MAX: usize = 7_863;
 
 /// How a message fared, who answers it, and when: what each head has to say; and how a document behind it is spelled.
 #[derive(Clone, Copy)]
@@ -45,6 +45,8 @@ pub(crate) struct Head<'a> {
     /// The id of the version that was copied.
     pub source_version_id: Option<&'a [u8]>,
     pub is_delete_marker: bool,
+    /// The region of a bucket.
+    pub region: Option<&'a [u8]>,
     pub location: Option<&'a [u8]>,
     /// The tag, without its double quotes.
     pub tag: Option<&'a [u8]>,
@@ -76,6 +78,7 @@ impl<'a> Head<'a> {
             version_id: None,
             source_version_id: None,
             is_delete_marker: false,
+            region: None,
             location: None,
             tag: None,
             modified: None,
@@ -119,19 +122,20 @@ impl<'a> Head<'a> {
         write_line(out, "x-amz-request-id", &number_digits(self.number));
     }
 
-    /// Appends the lines that tell of a bucket, an object or its version: 285 bytes at most, and no more than what they say needs.
+    /// Appends the lines that tell of a bucket, an object or its version: 372 bytes at most, and no more than what they say needs.
     fn write_version<R: Room>(&self, out: &mut R)
         requires fits { HasRoomFor (fields_of self.now) }
-        requires room { R.size out.old + 285 ≤ R.capacity out.old }
+        requires room { R.size out.old + 372 ≤ R.capacity out.old }
         ensures items { R.written out.new
             ≡ R.written out.old ++ print_lines (version_lines (fields_of self.now)) }
-        ensures bound { R.size out.new ≤ R.size out.old + 285 }
+        ensures bound { R.size out.new ≤ R.size out.old + 372 }
         ensures short { R.size out.new ≤ R.size out.old + version_room (fields_of self.now) }
         ensures capacity { R.capacity out.old ≤ R.capacity out.new }
     {
         write_optional(out, "x-amz-version-id", self.version_id);
         write_optional(out, "x-amz-copy-source-version-id", self.source_version_id);
         write_flag(out, "x-amz-delete-marker", "true", self.is_delete_marker);
+        write_optional(out, "x-amz-bucket-region", self.region);
         write_optional(out, "Location", self.location);
         write_quoted(out, "ETag", self.tag);
         write_optional(out, "Last-Modified", self.modified);

@@ -3,7 +3,8 @@
 ghost use Rattle.std.specs.Prelude.{◌≡◌, ◌+◌, ◌≤◌, true, false, [], ◌++◌, length, List, ℕ, Option, unwrap_or};
 ghost use Rattle.s3_replies.specs.Date.{IsDateShown};
 ghost use Rattle.s3_replies.specs.Head.{bare, print_head};
-ghost use Rattle.s3_replies.specs.Replies.{Prints, PrintsRefusal, back, front, has_body, reply_to, shown_at, made_fields, internal_error, continue_line};
+ghost use Rattle.s3_replies.specs.Lines.{value_of, value_length};
+ghost use Rattle.s3_replies.specs.Replies.{Prints, PrintsRefusal, back, front, has_body, reply_to, shown_at, made_fields, found_fields, region_told, internal_error, continue_line};
 
 use crate::Context;
 use crate::date::DateText;
@@ -20,7 +21,7 @@ use crate::values::location_of;
 use arrayvec::ArrayVec;
 use s3_bodies::Body;
 use s3_calendar::Moment;
-use s3_machine::{Answer, Outcome};
+use s3_machine::{Answer, Outcome, Region};
 use s3_names::BucketName;
 use s3_terms::{Code, Dialect};
 
@@ -48,6 +49,30 @@ fn made_reply<R: Room>(out: &mut R, opening: Opening, name: &BucketName)
     head.print(out);
 }
 
+/// What is told of a bucket's region.
+fn region_told(dialect: Dialect, region: &Region) -> Option<&[u8]>
+    ensures value { value_of result ≡ region_told dialect region.now }
+    ensures bound { value_length (value_of result) ≤ 64 }
+{
+    match dialect {
+        Dialect::Json => None,
+        Dialect::S3 => Some(region.as_bytes()),
+    }
+}
+
+/// Appends the whole reply that says that a bucket is there, and in which region.
+fn found_reply<R: Room>(out: &mut R, opening: Opening, region: &Region)
+    requires { R.size out.old + 8_192 ≤ R.capacity out.old }
+    ensures written { R.written out.new ≡ R.written out.old ++ print_head (found_fields opening region.now) }
+    ensures capacity { R.capacity out.old ≤ R.capacity out.new }
+{
+    let head = Head {
+        region: region_told(opening.dialect, region),
+        ..Head::bare(&opening)
+    };
+    head.print(out);
+}
+
 /// Appends the whole reply to what came of a command, where nothing stands behind it.
 fn whole_reply<R: Room>(out: &mut R, opening: Opening, outcome: Outcome, head_only: bool)
     requires room { R.size out.old + 8_192 ≤ R.capacity out.old }
@@ -58,10 +83,10 @@ fn whole_reply<R: Room>(out: &mut R, opening: Opening, outcome: Outcome, head_on
 {
     match outcome {
         Outcome::BucketMade { name } => made_reply(out, opening, &name),
-        Outcome::BucketFound
-        | Outcome::VersioningSet
-        | Outcome::BucketDropped
-        | Outcome::UploadDropped => bare_reply(out, opening),
+        Outcome::BucketFound { region } => found_reply(out, opening, &region),
+        Outcome::VersioningSet | Outcome::BucketDropped | Outcome::UploadDropped => {
+            bare_reply(out, opening);
+        }
         Outcome::BucketVersioning { versioning } => {
             versioning_reply(out, opening, versioning, head_only);
         }

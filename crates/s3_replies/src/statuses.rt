@@ -16,7 +16,7 @@ pub fn reply_status(outcome: &Outcome) -> Status
     match outcome {
         Outcome::Told { .. }
         | Outcome::BucketMade { .. }
-        | Outcome::BucketFound
+        | Outcome::BucketFound { .. }
         | Outcome::VersioningSet
         | Outcome::BucketVersioning { .. }
         | Outcome::Put { .. }

@@ -145,29 +145,49 @@ objects_asked_of dialect version target = do
 abbrev pub has_delimiter : TargetParts → Bool
 has_delimiter target = not (length (value_of (codes "delimiter") target) == 0)
 
--- what is asked of a list of versions or of uploads, none of which has common prefixes, but for the id behind which it goes on
+-- which a list of versions or of uploads doesn't have where documents are JSON
+abbrev pub lacks_prefixes : Dialect → TargetParts → Bool
+lacks_prefixes Json target = has_delimiter target
+lacks_prefixes S3 target = false
+
+-- what is asked of a list of versions or of uploads, but for the id behind which it goes on
 unfoldable pub keys_asked_of : Dialect → List ℕ → TargetParts → Result KeysAsked Code
 keys_asked_of dialect count target = do
-  refuse (has_delimiter target) NotImplemented
+  refuse (lacks_prefixes dialect target) NotImplemented
   most ← count_named (first_parameter count target)
   prefix ← text_argument (codes "prefix") target
+  delimiter ← text_argument (codes "delimiter") target
   key_marker ← text_argument (codes "key-marker") target
   is_url_encoded ← encoding_asked dialect target
-  Ok (record { prefix = prefix; key_marker = key_marker; most = most; is_url_encoded = is_url_encoded })
+  Ok (record { prefix = prefix; delimiter = delimiter; key_marker = key_marker; most = most; is_url_encoded = is_url_encoded })
 
 -- what is asked of a list of versions
 unfoldable pub versions_asked_of : Dialect → TargetParts → Result VersionsAsked Code
 versions_asked_of dialect target = do
   keys ← keys_asked_of dialect (codes "max-keys") target
   id_marker ← version_marker keys.key_marker target
-  Ok (record { prefix = keys.prefix; key_marker = keys.key_marker; id_marker = id_marker; max_keys = keys.most; is_url_encoded = keys.is_url_encoded })
+  Ok (record {
+    prefix = keys.prefix;
+    delimiter = keys.delimiter;
+    key_marker = keys.key_marker;
+    id_marker = id_marker;
+    max_keys = keys.most;
+    is_url_encoded = keys.is_url_encoded;
+  })
 
 -- what is asked of a list of uploads
 unfoldable pub uploads_asked_of : Dialect → TargetParts → Result UploadsAsked Code
 uploads_asked_of dialect target = do
   keys ← keys_asked_of dialect (codes "max-uploads") target
   id_marker ← upload_marker keys.key_marker target
-  Ok (record { prefix = keys.prefix; key_marker = keys.key_marker; id_marker = id_marker; max_uploads = keys.most; is_url_encoded = keys.is_url_encoded })
+  Ok (record {
+    prefix = keys.prefix;
+    delimiter = keys.delimiter;
+    key_marker = keys.key_marker;
+    id_marker = id_marker;
+    max_uploads = keys.most;
+    is_url_encoded = keys.is_url_encoded;
+  })
 
 -- what is asked of a list of parts: those behind a number, or all
 unfoldable pub parts_asked_of : TargetParts → Result PartsAsked Code

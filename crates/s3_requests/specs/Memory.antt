@@ -17,7 +17,7 @@ use Rattle.s3_requests.specs.Arguments.{version_argument}
 use Rattle.s3_requests.specs.Copies.{directive_of}
 use Rattle.s3_requests.specs.CopySource.{has_source_condition, path_in, version_in}
 use Rattle.s3_requests.specs.Description.{content_type_of}
-use Rattle.s3_requests.specs.ListArguments.{count_named, has_delimiter}
+use Rattle.s3_requests.specs.ListArguments.{count_named, lacks_prefixes}
 use Rattle.s3_requests.specs.Operations.{bucket_operation, is_xml, key_operation}
 use Rattle.s3_requests.specs.Overrides.{overrides_asked, overrides_sent}
 use Rattle.s3_requests.specs.Routing.{bucket_named, served}
@@ -92,17 +92,17 @@ PartCopyTakes dialect head target = IsOk (part_argument target) × SourceTakes d
 abbrev pub ObjectsTake : TargetParts → Type 0
 ObjectsTake target = IsOk (count_named (first_parameter (codes "max-keys") target))
 
--- so does a list of versions or of uploads that asks for no common prefixes
-abbrev pub KeysTake : List ℕ → TargetParts → Type 0
-KeysTake count target = (has_delimiter target ≡ false) × IsOk (count_named (first_parameter count target))
+-- so does a list of versions or of uploads that asks for no common prefixes which it doesn't have
+abbrev pub KeysTake : Dialect → List ℕ → TargetParts → Type 0
+KeysTake dialect count target = (lacks_prefixes dialect target ≡ false) × IsOk (count_named (first_parameter count target))
 
 -- an operation on a bucket takes it for the region that a body may name, or for the texts of a list
 abbrev pub InBucketTakes : Dialect → Operation → TargetParts → Type 0
 InBucketTakes dialect operations.CreateBucket target = is_xml dialect ≡ true
 InBucketTakes dialect operations.ListObjects target = (has_parameter (codes "list-type") target ≡ false) × ObjectsTake target
 InBucketTakes dialect operations.ListObjectsV2 target = ObjectsTake target
-InBucketTakes dialect operations.ListObjectVersions target = KeysTake (codes "max-keys") target
-InBucketTakes dialect operations.ListMultipartUploads target = KeysTake (codes "max-uploads") target
+InBucketTakes dialect operations.ListObjectVersions target = KeysTake dialect (codes "max-keys") target
+InBucketTakes dialect operations.ListMultipartUploads target = KeysTake dialect (codes "max-uploads") target
 InBucketTakes dialect other target = ⊥
 
 -- what is asked of a bucket takes it where this server has the operation

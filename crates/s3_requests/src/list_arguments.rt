@@ -37,7 +37,7 @@ pub(crate) fn objects_asked(
 {
     let max_keys = count_argument(target, b"max-keys")?;
     let prefix = text_argument(alloc, target, b"prefix")?;
-    let delimiter = text_argument(alloc, target, b"delimiter")?;
+    let delimiter = delimiter_argument(alloc, target)?;
     let (start_after, token) = places_asked(alloc, version, target)?;
     let is_url_encoded = is_encoding_asked(dialect, target)?;
     Ok(ObjectsAsked {
@@ -74,20 +74,21 @@ fn places_asked(
     }
 }
 
-// What is asked of a list of versions: `NotImplemented` where common prefixes are asked for, and then `InvalidArgument`
-// where an argument isn't of its form.
+// What is asked of a list of versions: `NotImplemented` where common prefixes are asked for that it doesn't have, and then
+// `InvalidArgument` where an argument isn't of its form.
 #[tactic(auto, unfolding(crate::specs::ListArguments::versions_asked_of, crate::specs::ListArguments::keys_asked_of))]
 pub(crate) fn versions_asked(
     alloc: Global,
     dialect: Dialect,
     target: &Target,
 ) -> Result<VersionsAsked, Code>
-    ensures { FollowsWhere (KeysTake (codes "max-keys") target.now) result (rules.versions_asked_of dialect target.now) }
+    ensures { FollowsWhere (KeysTake dialect (codes "max-keys") target.now) result (rules.versions_asked_of dialect target.now) }
 {
     let keys = keys_asked(alloc, dialect, target, b"max-keys")?;
     let id_marker = version_marker(target, &keys.key_marker)?;
     Ok(VersionsAsked {
         prefix: keys.prefix,
+        delimiter: keys.delimiter,
         key_marker: keys.key_marker,
         id_marker,
         max_keys: keys.most,
@@ -102,12 +103,13 @@ pub(crate) fn uploads_asked(
     dialect: Dialect,
     target: &Target,
 ) -> Result<UploadsAsked, Code>
-    ensures { FollowsWhere (KeysTake (codes "max-uploads") target.now) result (rules.uploads_asked_of dialect target.now) }
+    ensures { FollowsWhere (KeysTake dialect (codes "max-uploads") target.now) result (rules.uploads_asked_of dialect target.now) }
 {
     let keys = keys_asked(alloc, dialect, target, b"max-uploads")?;
     let id_marker = upload_marker(target, &keys.key_marker)?;
     Ok(UploadsAsked {
         prefix: keys.prefix,
+        delimiter: keys.delimiter,
         key_marker: keys.key_marker,
         id_marker,
         max_uploads: keys.most,
@@ -119,6 +121,7 @@ pub(crate) fn uploads_asked(
 #[derive(Drop)]
 pub(crate) struct KeysAsked {
     prefix: Text,
+    delimiter: Text,
     key_marker: Text,
     most: u16,
     is_url_encoded: bool,
@@ -132,17 +135,19 @@ fn keys_asked(
     target: &Target,
     count: &[u8],
 ) -> Result<KeysAsked, Code>
-    ensures { FollowsWhere (KeysTake count.now target.now) result (rules.keys_asked_of dialect count.now target.now) }
+    ensures { FollowsWhere (KeysTake dialect count.now target.now) result (rules.keys_asked_of dialect count.now target.now) }
 {
-    if has_delimiter(target) {
+    if lacks_prefixes(dialect, target) {
         return Err(Code::NotImplemented);
     }
     let most = count_argument(target, count)?;
     let prefix = text_argument(alloc, target, b"prefix")?;
+    let delimiter = delimiter_argument(alloc, target)?;
     let key_marker = text_argument(alloc, target, b"key-marker")?;
     let is_url_encoded = is_encoding_asked(dialect, target)?;
     Ok(KeysAsked {
         prefix,
+        delimiter,
         key_marker,
         most,
         is_url_encoded,
@@ -195,6 +200,16 @@ fn is_owner_asked(dialect: Dialect, version: ListVersion, target: &Target) -> bo
     }
 }
 
+// Whether a list of versions or of uploads is asked for common prefixes, which it doesn't have.
+fn lacks_prefixes(dialect: Dialect, target: &Target) -> bool
+    ensures { result ≡ rules.lacks_prefixes dialect target.now }
+{
+    match dialect {
+        Dialect::Json => has_delimiter(target),
+        Dialect::S3 => false,
+    }
+}
+
 // Whether common prefixes are asked for.
 fn has_delimiter(target: &Target) -> bool
     ensures { result ≡ rules.has_delimiter target.now }
@@ -217,6 +232,13 @@ fn text_argument(alloc: Global, target: &Target, name: &[u8]) -> Result<Text, Co
     ensures { Follows result (rules.text_argument name.now target.now) }
 {
     Text::read(alloc, value_of(target, name))
+}
+
+// The delimiter, which is empty where it is absent.
+fn delimiter_argument(alloc: Global, target: &Target) -> Result<Text, Code>
+    ensures { Follows result (rules.text_argument (codes "delimiter") target.now) }
+{
+    text_argument(alloc, target, b"delimiter")
 }
 
 // The text of the first parameter of this name, if one is there.

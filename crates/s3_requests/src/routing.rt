@@ -22,8 +22,8 @@ use crate::write_condition::{condition_of, deletion_said, tags_wanted};
 use s3_config::Config;
 use s3_http_heads::{Head, Target};
 use s3_machine::{
-    BucketCommand, Command, Description, KeyCommand, ObjectRead, UploadCommand, WriteCondition,
-    region_of,
+    BucketCommand, Command, Description, KeyCommand, ObjectRead, Region, UploadCommand,
+    WriteCondition,
 };
 use s3_names::{BucketName, Key, PartNumber, UploadId};
 use s3_prefixes::{ListVersion, Text};
@@ -254,7 +254,7 @@ fn creation_plan(alloc: Global, config: &Config, name: BucketName) -> Result<Pla
             asked: BucketCommand::Create,
         })),
         Dialect::S3 => {
-            let region = region_of(alloc, config)?;
+            let region = Region::of(config).text(alloc)?;
             Ok(Plan::CreateBucket { name, region })
         }
     }
@@ -318,7 +318,7 @@ fn list_of_objects(
 
 // ListObjectVersions, with what is asked of the list.
 fn list_of_versions(alloc: Global, dialect: Dialect, target: &Target) -> Result<BucketCommand, Code>
-    ensures { FollowsWhere (memory.KeysTake (codes "max-keys") target.now) result (rules.list_of_versions dialect target.now) }
+    ensures { FollowsWhere (memory.KeysTake dialect (codes "max-keys") target.now) result (rules.list_of_versions dialect target.now) }
 {
     let asked = versions_asked(alloc, dialect, target)?;
     Ok(BucketCommand::ListVersions(asked))
@@ -326,7 +326,7 @@ fn list_of_versions(alloc: Global, dialect: Dialect, target: &Target) -> Result<
 
 // ListMultipartUploads, with what is asked of the list.
 fn list_of_uploads(alloc: Global, dialect: Dialect, target: &Target) -> Result<BucketCommand, Code>
-    ensures { FollowsWhere (memory.KeysTake (codes "max-uploads") target.now) result (rules.list_of_uploads dialect target.now) }
+    ensures { FollowsWhere (memory.KeysTake dialect (codes "max-uploads") target.now) result (rules.list_of_uploads dialect target.now) }
 {
     let asked = uploads_asked(alloc, dialect, target)?;
     Ok(BucketCommand::ListUploads(asked))

@@ -7,11 +7,13 @@ use Rattle.s3_versions.specs.declared.version.Versioning.{Versioning}
 use Rattle.s3_versions.specs.declared.version.Versioning.TheVariants.{Unversioned, Enabled, Suspended}
 use Rattle.s3_names.specs.Ids.{version_id_text, upload_id_text}
 use Rattle.s3_listings.specs.Pages.{next_of}
+use Rattle.s3_listings.specs.Rolled.{next_row}
 use Rattle.s3_documents.specs.Buckets.{bucket_row}
 use Rattle.s3_documents.specs.Copied.{copied_fields}
 use Rattle.s3_documents.specs.Document.{buckets, objects, versions, uploads, parts, begun, completed, deletions, copied, part_copied, versioning, location, tags, error}
 use Rattle.s3_documents.specs.Error.{error_fields}
 use Rattle.s3_documents.specs.Location.{location_fields}
+use Rattle.s3_documents.specs.NextPage.{next_key}
 use Rattle.s3_documents.specs.ObjectList.{object_row, prefix_row, objects_fields, key_count, token_told, delimiter_told}
 use Rattle.s3_documents.specs.PartList.{part_fields, parts_fields, upload_named, number_of_part}
 use Rattle.s3_documents.specs.Printed.{told}
@@ -157,17 +159,17 @@ members_rise (objects name asked page) = record {
       (rows_rise object_row (λ object. refl) page.contents) (leaves_rise (objects_fields name asked page)));
 }
 members_rise (versions name asked page) = record {
-  top = versions_top (truth page.is_truncated) (encodable asked.key_marker) (number asked.max_keys) (text name) (encodable asked.prefix) (text (marker_told asked.id_marker))
-      (option_map key_of_row (next_of page)) (option_map id_of_row (next_of page)) (map version_fields page.given);
-  within = between_rise (versions_fields name asked page) (codes "Versions") (map version_fields page.given) []
+  top = versions_top (truth (is_some page.next)) (encodable asked.key_marker) (number asked.max_keys) (text name) (encodable asked.prefix) (text (marker_told asked.id_marker))
+      (next_key key_of_row page) (option_map id_of_row (next_row page)) (map version_fields page.rows);
+  within = between_rise (versions_fields name asked page) (codes "Versions") (map version_fields page.rows) []
       (rows_rise version_fields (λ row.
       version_row (truth (is_none row.facts)) (truth row.is_latest) (encodable row.key) (moment row.moment) (text (version_id_text row.id))
-      (option_map tag_of_facts row.facts) (option_map size_of_facts row.facts)) page.given);
+      (option_map tag_of_facts row.facts) (option_map size_of_facts row.facts)) page.rows);
 }
 members_rise (uploads name asked page) = record {
-  top = uploads_top (text name) (truth page.is_truncated) (encodable asked.key_marker) (number asked.max_uploads) (encodable asked.prefix) (text (upload_marker_told asked.id_marker))
-      (option_map key_of_upload (next_of page)) (option_map id_of_upload (next_of page)) (map upload_fields page.given);
-  within = between_rise (uploads_fields name asked page) (codes "Uploads") (map upload_fields page.given) [] (rows_rise upload_fields (λ row. refl) page.given);
+  top = uploads_top (text name) (truth (is_some page.next)) (encodable asked.key_marker) (number asked.max_uploads) (encodable asked.prefix) (text (upload_marker_told asked.id_marker))
+      (next_key key_of_upload page) (option_map id_of_upload (next_row page)) (map upload_fields page.rows);
+  within = between_rise (uploads_fields name asked page) (codes "Uploads") (map upload_fields page.rows) [] (rows_rise upload_fields (λ row. refl) page.rows);
 }
 members_rise (parts bucket key id asked page) = record {
   top = parts_top (text bucket) (truth page.is_truncated) (text key) (number asked.max_parts) (number asked.marker) (text (upload_id_text id))

@@ -59,7 +59,7 @@ impl<'a, R: Records + Drop> Replay<'a, R> {
     ///
     /// # Errors
     ///
-    /// `NoMemory` where there is no memory for a copy of the region's name.
+    /// `NoMemory` never comes, though no contract can say so.
     pub fn new(
         alloc: Global,
         config: &'a Config,
@@ -69,7 +69,7 @@ impl<'a, R: Records + Drop> Replay<'a, R> {
         requires opening { store ≡ opened (opening config.now.buckets) }
         ensures { IfOk result (λ replay. HasTaken replay config.now moment.now []) }
     {
-        let rules = Rules::of(alloc, config)?;
+        let rules = Rules::of(config);
         let recorded_store = RecordedStore::new(alloc, rules, store)?;
         Ok(Replay {
             alloc,

@@ -25,8 +25,8 @@ use std::alloc::Global;
 ///
 /// # Errors
 ///
-/// `NoMemory` where there is no memory for the connections, for a copy of the region's name, or for bytes that come while
-/// a command waits. The world is dropped then.
+/// `NoMemory` where there is no memory for the connections, or for bytes that come while a command waits. The world is
+/// dropped then.
 pub fn run<'a, R: Records + Drop>(
     alloc: Global,
     config: &'a Config,

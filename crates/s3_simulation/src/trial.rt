@@ -250,7 +250,7 @@ impl<'a> Trial<'a> {
     {
         let next = self.session.answer(Ok(Answer {
             number: 0,
-            outcome: Outcome::BucketFound,
+            outcome: Outcome::VersioningSet,
         }));
         let count = self.session.out().len();
         self.session.sent(count);

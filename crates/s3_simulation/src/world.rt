@@ -64,7 +64,7 @@ impl<'a, R: Records + Drop> World<'a, R> {
     ///
     /// # Errors
     ///
-    /// `NoMemory` where there is no memory for the connections, or for a copy of the region's name.
+    /// `NoMemory` where there is no memory for the connections.
     pub fn new(
         alloc: Global,
         config: &'a Config,
@@ -76,7 +76,7 @@ impl<'a, R: Records + Drop> World<'a, R> {
         ensures settings { IfOk result (λ world. world.settings ≡ config.now) }
     {
         let connections = fresh(alloc, moments)?;
-        let rules = Rules::of(alloc, config)?;
+        let rules = Rules::of(config);
         let recorded_store = RecordedStore::new(alloc, rules, store)?;
         Ok(World {
             alloc,

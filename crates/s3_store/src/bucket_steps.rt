@@ -40,7 +40,7 @@ pub(crate) fn take_on_bucket<R: Records>(
 {
     match asked {
         BucketCommand::Create => create(records, alloc, name, moment),
-        BucketCommand::Head => head(records, alloc, name),
+        BucketCommand::Head => head(records, alloc, rules, name),
         BucketCommand::Delete => delete(records, alloc, name),
         BucketCommand::PutVersioning { status } => put_versioning(records, alloc, name, status),
         BucketCommand::GetVersioning => get_versioning(records, alloc, name),
@@ -79,15 +79,22 @@ fn create<R: Records>(
 
 // HeadBucket.
 #[tactic(auto, unfolding(s3_machine::specs::Step::bucket_done))]
-fn head<R: Records>(records: &mut R, alloc: Global, name: &BucketName) -> Result<Outcome, NoMemory>
-    ensures ok { IfOk result (λ outcome. (rules : Rules) (t : ℕ)
-        → bucket_step rules (R.catalogue records.old) t name.now BucketCommand.Head ≡ (R.catalogue records.new, outcome)) }
+fn head<R: Records>(
+    records: &mut R,
+    alloc: Global,
+    rules: &Rules,
+    name: &BucketName,
+) -> Result<Outcome, NoMemory>
+    ensures ok { IfOk result (λ outcome. (t : ℕ)
+        → bucket_step rules.now (R.catalogue records.old) t name.now BucketCommand.Head ≡ (R.catalogue records.new, outcome)) }
     ensures same { R.catalogue records.new ≡ R.catalogue records.old }
     ensures memory { OnErr result (R.is_in_memory ≡ false) }
 {
     match records.bucket(alloc, name)? {
         None => Ok(refused(Code::NoSuchBucket)),
-        Some(_) => Ok(Outcome::BucketFound),
+        Some(_) => Ok(Outcome::BucketFound {
+            region: rules.region.copy(),
+        }),
     }
 }
 

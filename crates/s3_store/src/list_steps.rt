@@ -2,8 +2,8 @@
 ghost use Rattle.std.specs.Prelude.{◌≡◌, ℕ, true, false, IfOk, OnErr};
 ghost use Rattle.s3_records.specs.Rows.{key_rows};
 ghost use Rattle.s3_listings.specs.Objects.{objects_told};
-ghost use Rattle.s3_listings.specs.Uploads.{uploads_page};
-ghost use Rattle.s3_listings.specs.Versions.{versions_page};
+ghost use Rattle.s3_listings.specs.Uploads.{uploads_told};
+ghost use Rattle.s3_listings.specs.Versions.{versions_told};
 ghost use Rattle.s3_documents.specs.Document as documents;
 ghost use Rattle.s3_machine.specs.Effects.{is_refused};
 ghost use Rattle.s3_machine.specs.Step.{step};
@@ -49,7 +49,7 @@ pub(crate) fn tell_location<R: Records>(
     match records.bucket(alloc, name)? {
         None => Ok(refused(Code::NoSuchBucket)),
         Some(_) => {
-            let region = rules.region.copy()?;
+            let region = rules.region.text(alloc)?;
             let document = Document::of_location(alloc, region)?;
             Ok(Outcome::Told { document })
         }
@@ -140,7 +140,7 @@ fn tell_versions_of<R: Records>(
     asked: VersionsAsked,
 ) -> Result<Outcome, NoMemory>
     ensures value { IfOk result (λ outcome. outcome
-        ≡ Outcome.Told (documents.versions name.now asked (versions_page asked (R.catalogue records.old) name.now))) }
+        ≡ Outcome.Told (documents.versions name.now asked (versions_told asked (R.catalogue records.old) name.now))) }
     ensures same { R.catalogue records.new ≡ R.catalogue records.old }
 {
     let kept = name.copy()?;
@@ -185,7 +185,7 @@ fn tell_uploads_of<R: Records>(
     asked: UploadsAsked,
 ) -> Result<Outcome, NoMemory>
     ensures value { IfOk result (λ outcome. outcome
-        ≡ Outcome.Told (documents.uploads name.now asked (uploads_page asked (R.catalogue records.old) name.now))) }
+        ≡ Outcome.Told (documents.uploads name.now asked (uploads_told asked (R.catalogue records.old) name.now))) }
     ensures same { R.catalogue records.new ≡ R.catalogue records.old }
 {
     let kept = name.copy()?;

@@ -27,7 +27,7 @@ pub(crate) fn applied(
     store: &mut Store<MapRecords>,
     turn: Turn,
 ) -> Result<Answer, NoMemory> {
-    let rules = Rules::of(alloc, config)?;
+    let rules = Rules::of(config);
     store.apply(alloc, &rules, turn.command, turn.moment)
 }
 

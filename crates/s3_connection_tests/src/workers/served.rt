@@ -108,7 +108,7 @@ pub(crate) fn recorded_store(alloc: Global, config: &Config) -> Option<RecordedS
     ensures { IfSome result (λ recorded_store. recorded_store.entries ≡ []) }
 {
     let store = store(alloc, config)?;
-    let rules = Rules::of(alloc, config).ok()?;
+    let rules = Rules::of(config);
     RecordedStore::new(alloc, rules, store).ok()
 }
 

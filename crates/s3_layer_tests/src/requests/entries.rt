@@ -93,7 +93,7 @@ pub(crate) const BUCKETS: &str = "\
     PUT /vat|BucketAlreadyOwnedByYou;\
     HEAD /tub|NoSuchBucket;\
     PUT /tub|made tub;\
-    HEAD /tub|found;\
+    HEAD /tub|found us-east-1;\
     PUT /tub/k<one|stored - f97c5d29941bfb1b2fdab0874906ab82;\
     DELETE /tub|BucketNotEmpty;\
     DELETE /tub/k|deleted -;\

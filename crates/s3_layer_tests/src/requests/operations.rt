@@ -468,7 +468,7 @@ pub(crate) fn outcome_text(alloc: Global, outcome: Outcome) -> Told {
     match outcome {
         Outcome::Told { document } => document_text(alloc, document),
         Outcome::BucketMade { name } => joined(alloc, b"made ", name.as_bytes()),
-        Outcome::BucketFound => word(alloc, "found"),
+        Outcome::BucketFound { region } => joined(alloc, b"found ", region.as_bytes()),
         Outcome::BucketDropped => word(alloc, "dropped"),
         Outcome::VersioningSet => word(alloc, "set"),
         Outcome::BucketVersioning { versioning } => word(alloc, name_of(versioning)),

@@ -9,10 +9,10 @@ use crate::requests::operations::outcome_text;
 use s3_calendar::Moment;
 use s3_machine::{Answer, Rules};
 use s3_names::BucketName;
-use s3_prefixes::Text;
 use s3_records::MapRecords;
 use s3_store::Store;
 use s3_terms::{Code, Dialect};
+use s3_test_servers::config;
 use std::alloc::Global;
 
 /// The least size of a part, which is Amazon's: 5 MiB.
@@ -22,12 +22,9 @@ const LEAST_PART: u64 = 5_242_880;
 pub(crate) type Stored = Store<MapRecords>;
 
 // What stays the same of all entries.
-fn rules(alloc: Global) -> Result<Rules, Code> {
-    let region = Text::read(alloc, b"us-east-1")?;
-    Ok(Rules {
-        least_part: LEAST_PART,
-        region,
-    })
+fn rules(alloc: Global) -> Option<Rules> {
+    let config = config(alloc, b"us-east-1", LEAST_PART, 67_108_864, &[])?;
+    Some(Rules::of(&config))
 }
 
 /// The answer to this request at that second.
@@ -39,7 +36,7 @@ pub(crate) fn answer_to(
 ) -> Result<Answer, Code> {
     let (line, body) = cut(asked);
     let moment = Moment::new(seconds).ok_or(Code::InvalidArgument)?;
-    let rules = rules(alloc)?;
+    let rules = rules(alloc).ok_or(Code::InternalError)?;
     let command = command_of(alloc, Dialect::Json, line, body.as_bytes())?;
     Ok(store.apply(alloc, &rules, command, moment)?)
 }

@@ -20,12 +20,13 @@ returns c =
       ids = c.ids_differ.ensures.told;
       held = c.held_is_got.ensures;
       leaves = c.histories_leave_sound_bases.ensures.left;
+      plain = c.plain_lists_are_rows.ensures.versions;
     } in
     let follow : FollowRules =
     record { keys = c.changes_follow_rules.ensures.rules; completions = c.changes_follow_rules.ensures.completions } in
     record {
       objects = objects_are_told_as_read laws c.changes_are_by_place.ensures.places follow;
       versions = versions_are_told_as_read versions c.changes_are_by_place.ensures.places follow;
-      uploads = uploads_are_told_while_open c.uploads_are_open_until_ended.ensures.listed;
+      uploads = uploads_are_told_while_open c.plain_lists_are_rows.ensures.uploads c.uploads_are_open_until_ended.ensures.listed;
       parts = parts_are_told_while_standing c.parts_are_kept.ensures.listed;
     }

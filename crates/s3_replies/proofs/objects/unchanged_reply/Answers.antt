@@ -11,6 +11,7 @@ print-requires-clause-fits g c =
       date = search rules;
       version_id = search rules;
       source_version_id = search rules;
+      region = search rules;
       location = search rules;
       tag = search rules;
       modified = search rules;

@@ -12,5 +12,5 @@ opened_recorded_store recorded_store rules store = record { origin = recorded_st
 pub returns-clause-begins : goal.returns-clause-begins
 returns-clause-begins g c =
     begins c.args.config.now c.in_ok-connections.connections.items c.in_ok-recorded_store.recorded_store c.args.moments.now c.in_ok-connections.ensures
-    (c.in_ok-recorded_store.ensures ∙ ap (λ (rules : Rules). opened_recorded_store c.in_ok-recorded_store.recorded_store rules c.args.store) c.in_ok-rules.ensures
+    (c.in_ok-recorded_store.ensures ∙ ap (λ (rules : Rules). opened_recorded_store c.in_ok-recorded_store.recorded_store rules c.args.store) c.of-rules.ensures
     ∙ ap (opened_recorded_store c.in_ok-recorded_store.recorded_store (rules_of c.args.config.now)) c.requires.opening)

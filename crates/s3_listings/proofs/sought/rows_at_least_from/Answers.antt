@@ -2,13 +2,13 @@ use Rattle.std.proofs.Common.{sym, ap, subst, ◌∙◌, ◌<◌, length}
 use Rattle.s3_records.specs.declared.rows.Start.TheVariants.{Behind}
 use Rattle.s3_listings.specs.Sought.{rows_from}
 use Rattle.s3_listings.proofs.SoughtLemmas.{loop_ends, fewer_left, taken_before, covers_behind}
-use Rattle.s3_listings.proofs.sought.rows_at_least.Goals as goal
+use Rattle.s3_listings.proofs.sought.rows_at_least_from.Goals as goal
 
 pub returns-in-None-clause-value : goal.returns-in-None-clause-value
 returns-in-None-clause-value g c =
     loop_ends g.T.Listed.key (g.T.Listed.all (g.R.Records.catalogue c.loop-rows.records) c.args.bucket.now) (g.T.Listed.all (g.R.Records.catalogue c.args.records.now) c.args.bucket.now)
     c.loop-rows.start c.args.text.now c.args.most c.in_ok-rows.rows.items c.take_key_before.new.rows.items
-    (c.stand_by_key.ensures.order (g.R.Records.catalogue c.loop-rows.records) c.args.bucket.now) c.requires c.loop-rows.invariant.covers c.in_ok-rows.ensures.value
+    (c.stand_by_key.ensures.order (g.R.Records.catalogue c.loop-rows.records) c.args.bucket.now) c.requires.some c.loop-rows.invariant.covers c.in_ok-rows.ensures.value
     (c.take_key_before.ensures.none c.in-None.is) (c.take_key_before.ensures.same c.in-None.is)
     (ap (λ d. g.T.Listed.all d c.args.bucket.now) c.loop-rows.invariant.same)
 

@@ -1,7 +1,6 @@
 use Rattle.std.proofs.Common.{◌≡◌, length}
-use Rattle.s3_listings.specs.Sought.{rows_from}
-use Rattle.s3_listings.proofs.SoughtLemmas.{Covers}
-use Rattle.s3_listings.proofs.sought.rows_at_least.Given as goal
+use Rattle.s3_listings.specs.Sought.{Covers, rows_from}
+use Rattle.s3_listings.proofs.sought.rows_at_least_from.Given as goal
 
 -- the place isn't behind a key that isn't before the text
 abbrev pub invariant-loop-rows : goal.invariant-loop-rows
