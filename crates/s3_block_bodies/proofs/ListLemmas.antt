@@ -1,9 +1,9 @@
 -- Extents in a list in which no granule is in two.
-use Rattle.std.proofs.Common.{◌≡◌, ◌≢◌, ◌⊎◌, inl, inr, sym, ap, ◌∙◌, ℕ, ◌+◌, ◌<◌, ◌≤◌, true, cond, List, [], ◌∷◌, arith}
+use Rattle.std.proofs.Common.{◌≡◌, ◌≢◌, ◌⊎◌, inl, inr, sym, ap, ◌∙◌, ℕ, ◌+◌, ◌<◌, ◌≤◌, true, false, cond, List, [], ◌∷◌, ◌++◌, arith}
 use Rattle.std.specs.Prelude.{count_by}
 use Rattle.std.specs.List.{Contains}
 use Rattle.std.proofs.lemmas.Bool.Decides.{nat_tests}
-use Rattle.std.proofs.lemmas.List.Sums.{sum_by-cons}
+use Rattle.std.proofs.lemmas.List.Sums.{sum_by-cons, sum_by_push}
 use Rattle.std.proofs.lemmas.List.Elements.{Contains-push_cases, Contains-append_cases}
 use Rattle.s3_block_file.specs.declared.extent.Extent.{Extent}
 use Rattle.s3_block_file.specs.Extent.{granules_for, lies_in, AreApart, AreDisjoint}
@@ -18,7 +18,7 @@ in_more : (x : Extent) (xs : List Extent) (e : Extent) → Contains (x ∷ xs) e
 in_more x xs e has = elim (Contains-append_cases (x ∷ []) xs e has) [ inl here ↦ inl (in_one x e here) | inr there ↦ inr there ]
 
 -- one, if the granule is in the extent
-ones : ℕ → Extent → ℕ
+pub ones : ℕ → Extent → ℕ
 ones k e = cond (lies_in k e) 1 0
 
 ones_is : (k : ℕ) (x e : Extent) → x ≡ e → lies_in k e ≡ true → ones k x ≡ 1
@@ -53,8 +53,27 @@ count_two k (x ∷ xs) a b has_a has_b differ lies_a lies_b =
           ]
     ]
 
-lies : (k : ℕ) (e : Extent) → e.first ≤ k → k < e.first + granules_for e.size → lies_in k e ≡ true
+pub lies : (k : ℕ) (e : Extent) → e.first ≤ k → k < e.first + granules_for e.size → lies_in k e ≡ true
 lies k e low high = grind (arith, nat_tests)
+
+pub lies_not_in_front : (k : ℕ) (e : Extent) → k < e.first → lies_in k e ≡ false
+lies_not_in_front k e low = grind (arith, nat_tests)
+
+pub lies_not_behind : (k : ℕ) (e : Extent) → e.first + granules_for e.size ≤ k → lies_in k e ≡ false
+lies_not_behind k e high = grind (arith, nat_tests)
+
+pub ones_one : (k : ℕ) (e : Extent) → lies_in k e ≡ true → ones k e ≡ 1
+unfolding ones
+ones_one k e is = ap (λ t. cond t 1 0) is
+
+pub ones_none : (k : ℕ) (e : Extent) → lies_in k e ≡ false → ones k e ≡ 0
+unfolding ones
+ones_none k e is = ap (λ t. cond t 1 0) is
+
+-- one more at the end of a list
+pub count_push : (k : ℕ) (xs : List Extent) (e : Extent) → count_by (lies_in k) (xs ++ e ∷ []) ≡ count_by (lies_in k) xs + ones k e
+unfolding ones
+count_push k xs e = sum_by_push (λ x. cond (lies_in k x) 1 0) xs e
 
 -- two of them that begin elsewhere
 pub listed_apart : (xs : List Extent) (a b : Extent) → AreDisjoint xs → Contains xs a → Contains xs b → a.first ≢ b.first → AreApart a b

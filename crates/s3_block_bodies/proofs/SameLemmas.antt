@@ -7,7 +7,8 @@ use Rattle.std.proofs.lemmas.List.{ext_get_or}
 use Rattle.s3_stored_bodies.specs.Numbers.{bytes_under}
 use Rattle.s3_stored_bodies.specs.Held.{Held, contents_of, uses_of}
 use Rattle.s3_block_bodies.specs.Header.{front_for, header_for, stored}
-use Rattle.s3_block_bodies.specs.Stored.{IsStored, AreStored, AreHoused}
+use Rattle.s3_block_file.specs.Extent.{IsAddressable}
+use Rattle.s3_block_bodies.specs.Stored.{extent_of, IsStored, AreStored, AreHoused}
 use Rattle.s3_block_bodies.proofs.HeaderLemmas.{length-stored}
 use Rattle.s3_block_bodies.proofs.MapLemmas.{named_has}
 
@@ -50,12 +51,11 @@ same_stored file n a b low_a low_b has_a has_b =
     sym (bytes_back a) ∙ ap (drop 32) whole ∙ bytes_back b
 
 -- so one that a file has, and that was read from it, is what is in memory
-pub found_again : (file : List ℕ) (old new : Held) (old_granules new_granules : List ℕ) → AreHoused (contents_of old) old_granules → AreHoused (contents_of new) new_granules
-    → AreStored (contents_of old) file → AreStored (contents_of new) file
-    → (n : ℕ) (bytes : List ℕ) → map.get (contents_of old) n ≡ Some bytes → 0 < uses_of new n → map.get (contents_of new) n ≡ Some bytes
-found_again file old new old_granules new_granules old_housed new_housed was is n bytes there named =
+pub found_again : (file : List ℕ) (new : Held) (granules : List ℕ) → AreHoused (contents_of new) granules → AreStored (contents_of new) file
+    → (n : ℕ) (bytes : List ℕ) → IsAddressable (extent_of n (length bytes)) → IsStored file n bytes → 0 < uses_of new n → map.get (contents_of new) n ≡ Some bytes
+found_again file new granules housed is n bytes addressable was named =
     let has = named_has new n named in
     let read = bytes_under (contents_of new) n in
-    let low : length bytes < 2 ^ 64 = omega (arith, (old_housed.addressable n bytes there).1) in
-    let read_low : length read < 2 ^ 64 = omega (arith, (new_housed.addressable n read has).1) in
-    has ∙ ap Some (same_stored file n read bytes read_low low (is n read has) (was n bytes there))
+    let low : length bytes < 2 ^ 64 = omega (arith, addressable.1) in
+    let read_low : length read < 2 ^ 64 = omega (arith, (housed.addressable n read has).1) in
+    has ∙ ap Some (same_stored file n read bytes read_low low (is n read has) was)

@@ -1,17 +1,17 @@
 //! Bodies in memory and in a file.
-ghost use Rattle.std.specs.Prelude.{◌≡◌, ℕ, List, true, Some, IsTrue, IfOk};
+ghost use Rattle.std.specs.Prelude.{◌≡◌, ℕ, true, IsTrue, IfOk};
 ghost use Rattle.std.specs.FinMap as map;
 ghost use Rattle.s3_stored_bodies.specs.Numbers.{times};
 ghost use Rattle.s3_stored_bodies.specs.Held.{named_where_held};
-ghost use Rattle.s3_block_bodies.specs.Stored.{AreStored, AreSafe, MayFind, AreHoused};
+ghost use Rattle.s3_block_bodies.specs.Stored.{AreStored, MayFind, AreHoused, IsSettled};
 ghost use Rattle.s3_block_bodies.specs.Parts.{contents_in, uses_in, disk_in};
 
 use crate::changing;
 use crate::loading::{Loaded, load_all};
-use s3_block_file::BlockFile;
+use s3_block_file::{BlockFile, Extent};
 use s3_bodies::Body;
 use s3_storage::StorageFault;
-use s3_stored_bodies::{MemoryBodies, StoredBodies};
+use s3_stored_bodies::{MemoryBodies, NotSettled, StoredBodies};
 use s3_terms::NoMemory;
 use sqlite_disk::Disk;
 use std::alloc::Global;
@@ -20,13 +20,18 @@ use std::marker::Model;
 /// Bodies in memory and in a file, from which a later run has them again. The number of a body is the granule of the file at
 /// which it begins.
 ///
-/// A body is on the disk, synced, before `keep` answers. What a crash leaves, and what an `open` finds, is told as long as
-/// no wrong answer of the disk was taken as true (`is_clean`); all else holds whatever the disk does, since the bytes are
-/// read from memory. After a sync that failed nothing more is asked of the file, and each `keep` has an error.
+/// `keep` writes a body to the file, and `settle` syncs all that was written. The room of a body that no row names waits until it is
+/// let go, and is free then. What a crash leaves, and what an `open` finds, is told as long as no wrong answer of the disk was taken
+/// as true (`is_clean`); all else holds whatever the disk does, since the bytes are read from memory. After a sync that failed nothing
+/// more is asked of the file, and each `keep` and `settle` has an error.
 #[derive(Drop)]
 pub struct BlockBodies<D: Disk> {
     memory: MemoryBodies,
     file: BlockFile<D>,
+    // The room of bodies that went, which isn't free yet. It has memory for that of all bodies that are there.
+    waiting: Vec<Extent>,
+    // Whether the file was synced since a body was last written.
+    is_synced: bool,
 }
 
 impl<D: Disk> Model for BlockBodies<D> {
@@ -45,7 +50,7 @@ impl<D: Disk> Model for BlockBodies<D> {
       granules = granules_of bodies.file;
     } };
 
-    ghost invariant = { λ bodies. IsSound D.Disk.seen D.Disk.may_leave D.Disk.is_clean (contents_of bodies.memory) (disk_of bodies.file) (granules_of bodies.file) };
+    ghost invariant = { λ bodies. IsSound D.Disk.seen D.Disk.may_leave D.Disk.is_clean (contents_of bodies.memory) bodies.waiting.items bodies.is_synced (disk_of bodies.file) (granules_of bodies.file) };
 }
 
 impl<D: Disk + Drop> BlockBodies<D> {
@@ -66,22 +71,20 @@ impl<D: Disk + Drop> BlockBodies<D> {
     {
         let loaded = load_all(alloc, &mut disk, numbers)?;
         let Loaded { memory, extents } = loaded;
+        let waiting = Vec::with_capacity(alloc, extents.len())?;
         let file = BlockFile::open(alloc, disk, extents.as_slice())?;
-        Ok(BlockBodies { memory, file })
+        Ok(BlockBodies {
+            memory,
+            file,
+            waiting,
+            is_synced: true,
+        })
     }
 
-    /// Whether a body may still be kept: no sync of the file has failed.
-    pub fn is_live(&self) -> bool
-        ensures { result ≡ D.Disk.is_usable (disk_in self.now) }
-    {
-        self.file.is_usable()
-    }
-
-    /// That the disk has each body that a row names, and so has whatever a crash now leaves; and that nothing else is written
-    /// where it lies. It costs nothing.
-    pub fn are_safe(&self)
+    /// That the disk has each body that a row names, and that nothing else is written where it lies. It costs nothing.
+    pub fn are_housed(&self)
         ensures housed { AreHoused (contents_in self.now) self.now.granules }
-        ensures safe { IsTrue (D.Disk.is_clean (disk_in self.now)) → AreSafe D.Disk.seen D.Disk.may_leave (contents_in self.now) (disk_in self.now) }
+        ensures stored { IsTrue (D.Disk.is_clean (disk_in self.now)) → AreStored (contents_in self.now) (D.Disk.seen (disk_in self.now)) }
     {
         let _ = &self.file;
     }
@@ -90,12 +93,17 @@ impl<D: Disk + Drop> BlockBodies<D> {
     pub fn into_disk(self) -> D
         ensures { result ≡ disk_in self }
     {
-        let BlockBodies { memory: _, file } = self;
+        let BlockBodies {
+            memory: _,
+            file,
+            waiting: _,
+            is_synced: _,
+        } = self;
         file.into_disk()
     }
 }
 
-/// A call of `keep` takes the time to write the body and to sync it; all others don't touch the file.
+/// A call of `keep` takes the time to write the body, and `settle` that to sync what was written; all others don't touch the file.
 impl<D: Disk + Drop> StoredBodies for BlockBodies<D> {
     ghost contents = { contents_in };
 
@@ -105,18 +113,45 @@ impl<D: Disk + Drop> StoredBodies for BlockBodies<D> {
 
     ghost leaves = { λ bodies. MayFind D.Disk.may_leave D.Disk.is_clean (disk_in bodies) };
 
+    ghost outlives = { λ bodies. IsSettled D.Disk.may_leave D.Disk.is_clean (disk_in bodies) bodies.granules };
+
     ghost named_where_there = { λ bodies. named_where_held bodies.held };
 
     fn outlive_crashes(&self) {
-        self.are_safe();
+        let _ = &self.file;
     }
 
-    fn is_live(&self) -> bool {
-        self.is_live()
+    fn settle(&mut self) -> Result<(), NotSettled> {
+        if self.is_synced {
+            return Ok(());
+        }
+        if !self.file.is_usable() {
+            return Err(NotSettled);
+        }
+        match self.file.sync() {
+            Ok(()) => {
+                self.is_synced = true;
+                Ok(())
+            }
+            Err(_) => Err(NotSettled),
+        }
+    }
+
+    fn let_go(&mut self) {
+        self.file.free_all(self.waiting.as_slice());
+        self.waiting.clear();
     }
 
     fn keep(&mut self, alloc: Global, body: Body) -> Result<u64, NoMemory> {
-        changing::keep(&mut self.memory, &mut self.file, alloc, body)
+        self.waiting.reserve(self.memory.count().saturating_add(1))?;
+        self.is_synced = false;
+        changing::keep(
+            &mut self.memory,
+            &mut self.file,
+            self.waiting.as_slice(),
+            alloc,
+            body,
+        )
     }
 
     fn share(&mut self, number: u64) -> Result<(), NoMemory> {
@@ -124,7 +159,7 @@ impl<D: Disk + Drop> StoredBodies for BlockBodies<D> {
     }
 
     fn give_up(&mut self, number: u64) {
-        changing::give_up(&mut self.memory, &mut self.file, number);
+        changing::give_up(&mut self.memory, &self.file, &mut self.waiting, number);
     }
 
     fn body(&mut self, alloc: Global, number: u64) -> Result<Body, NoMemory> {

@@ -3,7 +3,7 @@ ghost use Rattle.std.specs.Prelude.{◌≡◌, ◌+◌, ℕ, length, slice_index
 ghost use Rattle.s3_block_file.specs.declared.extent.Extent.{Extent as Place};
 ghost use Rattle.s3_block_file.specs.Extent.{granules_for, IsAddressable, AreApart, Stores, StartsWith};
 ghost use Rattle.s3_block_file.specs.Uses.{AreFree, OneMore};
-ghost use Rattle.s3_block_file.specs.BlockFile.{disk_of, uses_of, IsLive, Survives};
+ghost use Rattle.s3_block_file.specs.BlockFile.{disk_of, uses_of, IsLive};
 ghost use Rattle.s3_block_bodies.specs.Header.{header_of, stored};
 ghost use Rattle.s3_block_bodies.specs.Spares.{Spares, SparesLive};
 
@@ -14,8 +14,8 @@ use s3_storage::StorageFault;
 use sqlite_disk::Disk;
 use std::alloc::Global;
 
-/// Writes a body where none lies, behind its header, and syncs it. After an error the file has what it had, and all room
-/// that it had.
+/// Writes a body where none lies, behind its header. Until the file is synced a crash may leave other bytes there. After an error the
+/// file has what it had, and all room that it had.
 pub(crate) fn store<D: Disk + Drop>(
     alloc: Global,
     file: &mut BlockFile<D>,
@@ -29,9 +29,8 @@ pub(crate) fn store<D: Disk + Drop>(
     ensures apart { IfOk result (λ e. (x : Place) → IsLive file.old x → AreApart x e) }
     ensures live { IfOk result (λ e. IsLive file.new e) }
     ensures stored { IfOk result (λ e. Stores (D.Disk.seen (disk_of file.new)) e (stored body.now)) }
-    ensures survives { IfOk result (λ e. Survives D.Disk.may_leave file.new e (stored body.now)) }
     ensures spares { SparesLive D.Disk.seen D.Disk.may_leave D.Disk.is_clean file.old file.new }
-    ensures usable { OnOk result (IsTrue (D.Disk.is_usable (disk_of file.new))) }
+    ensures usable { IsTrue (D.Disk.is_usable (disk_of file.new)) }
     ensures room { OnErr result ((granule : ℕ) → slice_index (uses_of file.new) granule ≡ slice_index (uses_of file.old) granule) }
 {
     let Some(size) = body.size().checked_add(HEADER_SIZE as u64) else {
@@ -47,7 +46,7 @@ pub(crate) fn store<D: Disk + Drop>(
     }
 }
 
-// Writes a body into its extent, and syncs it.
+// Writes a body into its extent.
 fn write<D: Disk + Drop>(
     alloc: Global,
     file: &mut BlockFile<D>,
@@ -58,13 +57,11 @@ fn write<D: Disk + Drop>(
     requires addressable { IsAddressable extent }
     requires size { extent.size ≡ length body.now + 32 }
     ensures stored { OnOk result (Stores (D.Disk.seen (disk_of file.new)) extent (stored body.now)) }
-    ensures survives { OnOk result (Survives D.Disk.may_leave file.new extent (stored body.now)) }
     ensures spares { Spares D.Disk.seen D.Disk.may_leave D.Disk.is_clean extent file.old file.new }
-    ensures usable { OnOk result (IsTrue (D.Disk.is_usable (disk_of file.new))) }
+    ensures usable { IsTrue (D.Disk.is_usable (disk_of file.new)) }
 {
     put_header(alloc, file, extent, body)?;
-    put_bytes(file, extent, body)?;
-    file.sync()
+    put_bytes(file, extent, body)
 }
 
 // Writes the header of a body to the start of its extent.

@@ -6,7 +6,7 @@ use Rattle.std.proofs.lemmas.Bool.Decides.{nat_tests}
 use Rattle.std.proofs.lemmas.List.Sums.{count_by_more_yes, count_by_more_no, sum_by_more_le}
 use Rattle.s3_block_file.specs.declared.extent.Extent.{Extent}
 use Rattle.s3_block_file.specs.Extent.{granules_for, lies_in, AreDisjoint}
-use Rattle.s3_block_file.specs.Uses.{AreFree, OneMore}
+use Rattle.s3_block_file.specs.Uses.{AreFree, AreTaken, OneMore}
 
 lies : (k : ℕ) (e : Extent) → e.first ≤ k → k < e.first + granules_for e.size → lies_in k e ≡ true
 lies k e from to = grind (arith, nat_tests)
@@ -55,5 +55,27 @@ still_single old new first count free more single k =
           elim (cases_lt k (first + count)) [
             | inl inside ↦ omega (arith, more.these k high inside, free k high inside)
             | inr past ↦ omega (arith, more.behind k past, single k)
+          ]
+    ]
+
+-- what comes next in a list of extents that are counted is taken, where those before it were given back
+pub next_taken : (old uses : List ℕ) (gone : List Extent) (i : ℕ) (e d : Extent) → i < length gone → get_or gone i d ≡ e → ((k : ℕ) → slice_index uses k + count_by (lies_in k) (take i gone) ≡ slice_index old k)
+    → ((k : ℕ) → count_by (lies_in k) gone ≤ slice_index old k) → AreTaken uses e.first (granules_for e.size)
+next_taken old uses gone i e d inside is so_far counted k from to =
+    omega (arith, so_far k, counted k, counted_there k gone i d inside (ap (lies_in k) is ∙ lies k e from to))
+
+-- and one more is given back
+pub counts_back : (old uses new : List ℕ) (gone : List Extent) (i : ℕ) (e d : Extent) → i < length gone → get_or gone i d ≡ e → OneMore e.first (granules_for e.size) new uses
+    → ((k : ℕ) → slice_index uses k + count_by (lies_in k) (take i gone) ≡ slice_index old k) → (k : ℕ) → slice_index new k + count_by (lies_in k) (take (i + 1) gone) ≡ slice_index old k
+counts_back old uses new gone i e d inside is less so_far k =
+    elim (cases_lt k e.first) [
+      | inl low ↦
+          omega (arith, less.in_front k low, so_far k, count_by_more_no (lies_in k) gone i d inside (ap (lies_in k) is ∙ lies_not_in_front k e low))
+      | inr high ↦
+          elim (cases_lt k (e.first + granules_for e.size)) [
+            | inl among ↦
+                omega (arith, less.these k high among, so_far k, count_by_more_yes (lies_in k) gone i d inside (ap (lies_in k) is ∙ lies k e high among))
+            | inr past ↦
+                omega (arith, less.behind k past, so_far k, count_by_more_no (lies_in k) gone i d inside (ap (lies_in k) is ∙ lies_not_behind k e past))
           ]
     ]

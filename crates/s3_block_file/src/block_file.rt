@@ -10,7 +10,7 @@ ghost use Rattle.s3_block_file.specs.BlockFile.{disk_of, uses_of, IsLive, Surviv
 
 use crate::disk_calls;
 use crate::extent::{Extent, MAX_SIZE, granule_count};
-use crate::granules::Granules;
+use crate::granules::{Granules, lower_all};
 use s3_storage::StorageFault;
 use sqlite_disk::Disk;
 use std::alloc::Global;
@@ -166,6 +166,16 @@ impl<D: Disk + Drop> BlockFile<D> {
         ensures disk { disk_of self.new ≡ disk_of self.old }
     {
         self.granules.lower(extent.first, extent.granules());
+    }
+
+    /// One body less has each of these extents, as `free` says for one. Each granule has to have as many bodies as there are extents
+    /// with it.
+    pub fn free_all(&mut self, extents: &[Extent])
+        requires { (k : ℕ) → count_by (lies_in k) extents.now ≤ slice_index (uses_of self.old) k }
+        ensures gives { (k : ℕ) → slice_index (uses_of self.new) k + count_by (lies_in k) extents.now ≡ slice_index (uses_of self.old) k }
+        ensures disk { disk_of self.new ≡ disk_of self.old }
+    {
+        lower_all(&mut self.granules, extents);
     }
 
     /// One body more has this extent, as a copy does.

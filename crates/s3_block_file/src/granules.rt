@@ -130,3 +130,13 @@ impl Granules {
         self.low = self.low.min(first);
     }
 }
+
+/// One body less has the granules of each of these extents.
+pub(crate) fn lower_all(granules: &mut Granules, extents: &[Extent])
+    requires { (k : ℕ) → count_by (lies_in k) extents.now ≤ slice_index granules.old k }
+    ensures { (k : ℕ) → slice_index granules.new k + count_by (lies_in k) extents.now ≡ slice_index granules.old k }
+{
+    for extent in extents {
+        granules.lower(extent.first, extent.granules());
+    }
+}

@@ -1,10 +1,19 @@
--- Rows in memory and in a file may go to another thread, as a connection may.
+-- Rows in memory and in a file may go to another thread, as a connection may, with the changes that wait for the file.
 use denote.Param.Send.{IsSend, sendable}
+use denote.Param.SendFields.{variants_send}
+use Rattle.std.proofs.Crossing.{crosses}
 use Rattle.s3_sql_rows.proofs.SendLemmas.{rows_send}
 use Rattle.s3_tables.proofs.table_file.TableFile.TheSendSync.{the_send as file_send}
 use Rattle.sqlite_store.proofs.store.FileStore.TheSendSync.{the_send as store_send}
 use Rattle.sqlite_disk.proofs.modelled.Modelled.TheSendSync.{the_send as disk_send}
 use Rattle.sqlite_std_file.specs.contracts.host.Host as host
+use Rattle.s3_stored_rows.specs.contracts.rows.StoredBucket as bucket
+use Rattle.s3_stored_rows.specs.contracts.rows.StoredVersion as version
+use Rattle.s3_stored_rows.specs.contracts.rows.StoredUpload as upload
+use Rattle.s3_stored_rows.specs.contracts.rows.StoredPart as part
+use Rattle.s3_stored_rows.specs.contracts.rows.StoreNumbers as numbers
+use Rattle.s3_stored_rows.specs.contracts.rows.TableName as table
+use Rattle.s3_stored_rows.specs.contracts.change.Change as change
 use Rattle.s3_table_files.specs.contracts.file_tables.FileTables as tables
 use Rattle.s3_mirrored_rows.specs.contracts.mirrored_rows.MirroredRows.{the_row}
 
@@ -14,5 +23,26 @@ host_send = search (sendable) depth 20
 tables_send : IsSend tables.the_row
 tables_send = search (sendable, file_send, store_send, disk_send, host_send) depth 20
 
+bucket_send : IsSend bucket.the_row
+bucket_send = search (sendable, crosses) depth 30
+
+version_send : IsSend version.the_row
+version_send = search (sendable, crosses) depth 30
+
+upload_send : IsSend upload.the_row
+upload_send = search (sendable, crosses) depth 30
+
+part_send : IsSend part.the_row
+part_send = search (sendable, crosses) depth 30
+
+numbers_send : IsSend numbers.the_row
+numbers_send = search (sendable) depth 30
+
+table_send : IsSend table.the_row
+table_send = search (sendable) depth 30
+
+change_send : IsSend change.the_row
+change_send = variants_send change.enum ((bucket_send, tt), ((version_send, tt), ((upload_send, tt), ((part_send, tt), ((numbers_send, tt), ((table_send, (search sendable, tt)), tt))))))
+
 pub mirrored_send : IsSend the_row
-mirrored_send = search (sendable, rows_send, tables_send) depth 20
+mirrored_send = search (sendable, crosses, rows_send, tables_send, change_send) depth 30

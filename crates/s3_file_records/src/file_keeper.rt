@@ -15,8 +15,8 @@ pub type FileRecords = TableRecords<MirroredRows, FileBodies>;
 #[derive(Clone, Copy)]
 pub struct FileKeeper<'a>(pub &'a HostRuntime);
 
-/// The folder has the files `records.db` and `blocks`, and beside each a log whose name ends in `-wal`. They are held as long as the
-/// records are: another open answers `Held`, in this process and in others.
+/// The folder has the files `records.db` and `blocks`, beside each a log whose name ends in `-wal`, and `spare`, whose zeros hold room on
+/// the disk. They are held as long as the records are: another open answers `Held`, in this process and in others.
 ///
 /// It takes the time to read all rows and bytes, and the memory to hold them.
 impl FolderKeeper for FileKeeper<'_> {

@@ -1,5 +1,5 @@
 //! A folder is opened: its rows are read and checked, then the bodies that these name.
-ghost use Rattle.std.specs.Prelude.{◌≡◌, false, length, IsTrue, IfOk};
+ghost use Rattle.std.specs.Prelude.{◌≡◌, ℕ, false, length, IsTrue, IfOk, OnOk};
 ghost use Rattle.sqlite.specs.State.{HasCleanDisk};
 ghost use Rattle.sqlite.specs.Files.{file_state};
 ghost use Rattle.s3_keepers.specs.Begun.{HasBuckets};
@@ -18,11 +18,12 @@ use s3_found_rows::{Found, FoundTables, load};
 use s3_keepers::{Opened, add_missing};
 use s3_mirrored_rows::MirroredRows;
 use s3_names::BucketName;
+use s3_records::{CommitError, Records};
 use s3_sql_rows::SqlRows;
 use s3_storage::StorageFault;
 use s3_stored_bodies::StoredBodies;
 use s3_stored_rows::StoredRows;
-use s3_table_files::{FileTables, make_folder, open_blocks};
+use s3_table_files::{FileTables, SpareRoom, make_folder, open_blocks};
 use s3_table_records::TableRecords;
 use sqlite_disk::Disk;
 use sqlite_std_file::{File, Unknown};
@@ -70,7 +71,7 @@ fn over_file(
     ensures buckets { IfOk result (λ opened. HasBuckets buckets.now (catalogue_in opened.records)) }
 {
     match found_bodies(rt, alloc, path, found) {
-        Ok(bodies) => over_both(alloc, memory, file, bodies, found, buckets),
+        Ok(bodies) => over_both(rt, alloc, path, memory, file, bodies, found, buckets),
         Err(fault) => {
             drop(memory);
             drop(file);
@@ -81,7 +82,9 @@ fn over_file(
 
 // The same with these bodies.
 fn over_both(
+    rt: &HostRuntime,
     alloc: Global,
+    path: &str,
     memory: SqlRows,
     file: FileTables,
     bodies: FileBodies,
@@ -95,7 +98,7 @@ fn over_both(
     ensures sound { IfOk result (λ opened. IsSoundCatalogue (catalogue_in opened.records) opened.number) }
     ensures buckets { IfOk result (λ opened. HasBuckets buckets.now (catalogue_in opened.records)) }
 {
-    match mirrored(memory, file, found) {
+    match mirrored(rt, alloc, path, memory, file, found) {
         Ok(rows) => with_buckets(alloc, rows, bodies, found, buckets),
         Err(fault) => {
             drop(bodies);
@@ -118,15 +121,32 @@ fn with_buckets<R: StoredRows + Drop, B: StoredBodies + Drop>(
     ensures buckets { IfOk result (λ opened. HasBuckets buckets.now (catalogue (kept_in R.tables B.contents B.uses opened.records))) }
 {
     let mut records = TableRecords::over(rows, bodies, found.next);
-    match add_missing(&mut records, alloc, buckets) {
+    match make_missing(&mut records, alloc, buckets) {
         Ok(()) => Ok(Opened {
             records,
             number: found.number,
         }),
-        Err(failed) => {
+        Err(fault) => {
             drop(records);
-            Err(StorageFault::from(failed))
+            Err(fault)
         }
+    }
+}
+
+// Makes the buckets of these names that are missing, and commits them.
+fn make_missing<K: Records>(
+    records: &mut K,
+    alloc: Global,
+    buckets: &[BucketName],
+) -> Result<(), StorageFault>
+    ensures there { OnOk result (HasBuckets buckets.now (K.catalogue records.new)) }
+    ensures sound { (number : ℕ) → IsSoundCatalogue (K.catalogue records.old) number → IsSoundCatalogue (K.catalogue records.new) number }
+{
+    add_missing(records, alloc, buckets)?;
+    match records.commit() {
+        Ok(()) => Ok(()),
+        Err(CommitError::NoMemory) => Err(StorageFault::NoMemory),
+        Err(CommitError::Failed) => Err(StorageFault::Failed),
     }
 }
 
@@ -156,8 +176,38 @@ fn in_memory(alloc: Global, tables: &mut FoundTables) -> Result<(SqlRows, Found)
     }
 }
 
-// Rows in memory over a file that has the same, where the numbers of this run are taken.
-fn mirrored(memory: SqlRows, file: FileTables, found: &Found) -> Result<MirroredRows, StorageFault>
+// Rows in memory over a file that has the same, where the numbers of this run are taken, and the room that the folder spares.
+fn mirrored(
+    rt: &HostRuntime,
+    alloc: Global,
+    path: &str,
+    memory: SqlRows,
+    file: FileTables,
+    found: &Found,
+) -> Result<MirroredRows, StorageFault>
+    requires found { IsFound found.now memory }
+    requires store { HasStore found.now.number memory }
+    requires same { HasCleanDisk (file_state file) → IsTrue (file_state file).is_open → file_tables (file_state file) ≡ memory }
+    ensures { IfOk result (λ rows. IsFound found.now rows.memory) }
+{
+    match spare_room(rt, alloc, path) {
+        Ok(spare) => with_numbers(alloc, memory, file, spare, found),
+        Err(fault) => {
+            drop(memory);
+            drop(file);
+            Err(fault)
+        }
+    }
+}
+
+// The same with this room.
+fn with_numbers(
+    alloc: Global,
+    memory: SqlRows,
+    file: FileTables,
+    spare: SpareRoom,
+    found: &Found,
+) -> Result<MirroredRows, StorageFault>
     requires found { IsFound found.now memory }
     requires store { HasStore found.now.number memory }
     requires same { HasCleanDisk (file_state file) → IsTrue (file_state file).is_open → file_tables (file_state file) ≡ memory }
@@ -165,13 +215,20 @@ fn mirrored(memory: SqlRows, file: FileTables, found: &Found) -> Result<Mirrored
 {
     let (mut memory, mut file) = (memory, file);
     match take_numbers(&mut memory, &mut file, found.number) {
-        Ok(()) => Ok(MirroredRows::new(memory, file)),
+        Ok(()) => Ok(MirroredRows::new(alloc, memory, file, spare)),
         Err(fault) => {
             drop(memory);
             drop(file);
+            drop(spare);
             Err(fault)
         }
     }
+}
+
+// The room that a folder spares for changes.
+fn spare_room(rt: &HostRuntime, alloc: Global, path: &str) -> Result<SpareRoom, StorageFault> {
+    let name = format!(in alloc; "{path}/spare")?;
+    SpareRoom::open(rt, alloc, name.as_str())
 }
 
 // The bodies that rows name. Where the rows are those of a new store there may be no bytes: else these are of rows that were lost.

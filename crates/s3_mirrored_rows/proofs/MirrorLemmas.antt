@@ -1,13 +1,15 @@
--- What a crash leaves of the file.
-use Rattle.std.proofs.Common.{◌≡◌, ◌⊎◌, inl, inr, true, Result, Ok, Err, sym, ap, ◌∙◌, arith}
-use Rattle.std.specs.Prelude.{IsTrue, OnOk, is_ok}
+-- What a crash leaves of the file, and what waits for it.
+use Rattle.std.proofs.Common.{◌≡◌, ◌⊎◌, inl, inr, Result, Ok, Err, List, [], ◌∷◌, length, refl, sym, ap, ◌∙◌, arith}
+use Rattle.std.specs.Prelude.{IsTrue, is_ok}
 use Rattle.sqlite_trees.specs.Tree.{Trees}
 use Rattle.sqlite.specs.declared.error.Error.{Error}
 use Rattle.sqlite.specs.State.{State, HasCleanDisk}
 use Rattle.s3_rows.specs.Columns.{Tables}
+use Rattle.s3_stored_rows.specs.declared.change.Change.{Change}
+use Rattle.s3_stored_rows.specs.Changes.{after_all}
 use Rattle.s3_tables.specs.Stored.{Stores, tables_in}
 use Rattle.s3_tables.specs.Keeping.{tables, Keeps, Steps, Reads}
-use Rattle.s3_mirrored_rows.specs.Mirror.{Agrees, MayLeave}
+use Rattle.s3_mirrored_rows.specs.Mirror.{Awaits, MayLeave, Commits}
 
 -- what is read in trees that store tables is those
 abbrev pub ShownLaw : Type 0
@@ -17,59 +19,84 @@ ShownLaw = (db : Trees) (t : Tables) → Stores db t → tables_in db ≡ t
 pub left_is : ShownLaw → (s : State) (known : Tables) → (HasCleanDisk s → Keeps s) → (HasCleanDisk s → IsTrue s.is_open) → (HasCleanDisk s → tables s ≡ known) → (t : Tables) → MayLeave s t → t ≡ known
 left_is shown s known keeps up same t (clean, db, left, is) = sym is ∙ shown db (tables s) (((keeps clean).serves (up clean)).settled db left) ∙ same clean
 
-module _ {X : Type 0} (change : Tables → Tables) (old new : State) (known : Tables) (agrees : Agrees old known) where
-  -- a change that the file made agrees with the same one in memory
-  pub made_agrees : (x : X) → Steps change old new (Ok x) → (more : Tables) → more ≡ change known → Agrees new more
-  made_agrees x steps more is clean up =
+-- the changes that waited were made in the file, or not
+module _ (shown : ShownLaw) (waiting : List Change) (old new : State) (t : Tables) (awaits : Awaits old waiting t) where
+  pub made_is : {X : Type 0} (x : X) → Steps (after_all waiting) old new (Ok x) → HasCleanDisk new → IsTrue new.is_open → tables new ≡ t
+  made_is x steps clean up =
       let early : HasCleanDisk old = omega (arith, steps.survives.clean, clean) in
-      (steps.made clean).made ∙ ap change (agrees early (steps.was_open clean up)) ∙ sym is
+      (steps.made clean).made ∙ awaits early (steps.was_open clean up)
 
-  -- and one that it didn't make leaves what agrees
-  pub kept_agrees : (e : Error) → Steps {X = X} change old new (Err e) → Agrees new known
-  kept_agrees e steps clean up =
+  made_survives : {X : Type 0} (r : Result X Error) → Steps (after_all waiting) old new r → (u : Tables) → MayLeave new u → MayLeave old u ⊎ (u ≡ t)
+  made_survives r steps u (clean, db, left, is) =
       let early : HasCleanDisk old = omega (arith, steps.survives.clean, clean) in
-      steps.kept clean up ∙ agrees early (steps.was_open clean up)
+      elim (steps.survives.crash clean db left) [
+        | inl kept ↦ inl (early, db, kept, is)
+        | inr changed ↦ inr (sym is ∙ shown db (after_all waiting (tables old)) changed.1 ∙ awaits early changed.0)
+      ]
 
-  -- what a crash leaves of a change that was made
-  pub made_stays : ShownLaw → (x : X) → Steps change old new (Ok x) → (more : Tables) → more ≡ change known → (t : Tables) → MayLeave new t → t ≡ more
-  made_stays shown x steps more is t (clean, db, left, found) =
-      let made = steps.made clean in
-      sym found ∙ shown db (tables new) (made.settled db left) ∙ made_agrees x steps more is clean made.is_open
+  pub commits_made : {X Y E : Type 0} (x : X) (y : Y) → Steps (after_all waiting) old new (Ok x) → (left : List Change) → left ≡ [] → Commits {X = Y} {E = E} t old new left (Ok y)
+  commits_made x y steps left none = record {
+    awaits = λ clean up. ap (λ (l : List Change). after_all l (tables new)) none ∙ made_is x steps clean up;
+    settled = λ u (clean, db, may, is).
+        let made = steps.made clean in
+        sym is ∙ shown db (tables new) (made.settled db may) ∙ made_is x steps clean made.is_open;
+    survives = made_survives (Ok x) steps;
+  }
 
--- where a change was made in memory it is known
-pub on_ok : {X E : Type 0} {P Q : Type 0} (r : Result X E) → (P → Q) → OnOk r P → OnOk r Q
-on_ok (Ok x) so p = so p
-on_ok (Err e) so p = tt
+  pub commits_failed : {X Y E : Type 0} (error : Error) (told : E) → Steps {X = X} (after_all waiting) old new (Err error) → Commits {X = Y} t old new waiting (Err told)
+  commits_failed error told steps = record {
+    awaits = λ clean up.
+        let early : HasCleanDisk old = omega (arith, steps.survives.clean, clean) in
+        ap (after_all waiting) (steps.kept clean up) ∙ awaits early (steps.was_open clean up);
+    settled = tt;
+    survives = made_survives (Err error) steps;
+  }
 
-pub was_made : {X E : Type 0} {P : Type 0} (r : Result X E) → is_ok r ≡ true → OnOk r P → P
-was_made (Ok x) is p = p
-was_made (Err e) is p = absurd cc
-
--- what it could leave before, or the change of the tables that the file has
-pub survived : {X : Type 0} (change : Tables → Tables) (old new : State) (known : Tables) → Agrees old known → ShownLaw
-    → (r : Result X Error) → Steps change old new r → (t : Tables) → MayLeave new t → MayLeave old t ⊎ (t ≡ change known)
-survived change old new known agrees shown r steps t (clean, db, left, is) =
-    let early : HasCleanDisk old = omega (arith, steps.survives.clean, clean) in
-    elim (steps.survives.crash clean db left) [
-      | inl kept ↦ inl (early, db, kept, is)
-      | inr changed ↦ inr (sym is ∙ shown db (change (tables old)) changed.1 ∙ ap change (agrees early changed.0))
-    ]
-
--- a call that reads leaves what agrees, and what a crash leaves
+-- a call that asks leaves what waits, and what a crash leaves
 module _ (old new : State) (reads : Reads old new) where
   early : HasCleanDisk new → HasCleanDisk old
   early clean = omega (arith, reads.survives.clean, clean)
 
-  pub read_agrees : (known : Tables) → Agrees old known → Agrees new known
-  read_agrees known agrees clean up = reads.kept clean up ∙ agrees (early clean) (reads.was_open clean up)
+  pub read_awaits : (waiting : List Change) (t : Tables) → Awaits old waiting t → Awaits new waiting t
+  read_awaits waiting t awaits clean up = ap (after_all waiting) (reads.kept clean up) ∙ awaits (early clean) (reads.was_open clean up)
 
   pub read_stays : (t : Tables) → MayLeave new t → MayLeave old t
   read_stays t (clean, db, left, is) = (early clean, db, (elim (reads.survives.crash clean db left) [ inl before ↦ before | inr never ↦ absurd never ]), is)
 
--- of a file that was asked again, and answered, a crash leaves what agreed
-pub asked_is : {X E Y F : Type 0} → ShownLaw → (old new : State) (known : Tables) → Reads old new → Agrees old known → (asked : Result X E) (told : Result Y F) → is_ok told ≡ is_ok asked
-    → OnOk asked (HasCleanDisk new → IsTrue new.is_open) → OnOk told ((t : Tables) → MayLeave new t → t ≡ known)
-asked_is shown old new known reads agrees (Ok x) (Ok y) alike up = left_is shown new known reads.keeps up (λ clean. read_agrees old new reads known agrees clean (up clean))
-asked_is shown old new known reads agrees (Err e) (Ok y) alike up = absurd cc
-asked_is shown old new known reads agrees (Ok x) (Err f) alike up = tt
-asked_is shown old new known reads agrees (Err e) (Err f) alike up = tt
+  pub commits_unasked : {X E : Type 0} (told : E) (waiting : List Change) (t : Tables) → Awaits old waiting t → Commits {X = X} t old new waiting (Err told)
+  commits_unasked told waiting t awaits = record { awaits = read_awaits waiting t awaits; settled = tt; survives = λ u left. inl (read_stays u left) }
+
+  -- where nothing waits, and the file answers
+  pub commits_none : {X E : Type 0} → ShownLaw → (x : X) (waiting : List Change) (t : Tables) → waiting ≡ [] → (HasCleanDisk new → IsTrue new.is_open) → Awaits old waiting t → Commits {E = E} t old new waiting (Ok x)
+  commits_none shown x waiting t none up awaits = record {
+    awaits = read_awaits waiting t awaits;
+    settled = left_is shown new t reads.keeps up (λ clean. ap (λ (l : List Change). after_all l (tables new)) (sym none) ∙ read_awaits waiting t awaits clean (up clean));
+    survives = λ u left. inl (read_stays u left);
+  }
+
+  pub commits_asked : {X E : Type 0} (last : State) (left : List Change) (t : Tables) (r : Result X E) → Commits t new last left r → Commits t old last left r
+  commits_asked last left t r commits = record {
+    awaits = commits.awaits;
+    settled = commits.settled;
+    survives = λ u may. elim (commits.survives u may) [ inl mid ↦ inl (read_stays u mid) | inr is ↦ inr is ];
+  }
+
+-- a list of no length has nothing
+pub none_where : (xs : List Change) → length xs ≡ 0 → xs ≡ []
+none_where [] none = refl
+none_where (x ∷ xs) none = absurd (omega (arith, none))
+
+-- two commits, one after another
+pub commits_again : {X E Y F : Type 0} (old mid new : State) (before after : List Change) (t : Tables) (first : Result X E) (second : Result Y F) → Commits t old mid before first → Commits t mid new after second → Commits t old new after second
+commits_again old mid new before after t first second one two = record {
+  awaits = two.awaits;
+  settled = two.settled;
+  survives = λ u may. elim (two.survives u may) [ inl between ↦ one.survives u between | inr is ↦ inr is ];
+}
+
+-- and one that is told otherwise
+pub commits_told : {X E Y F : Type 0} (old new : State) (waiting : List Change) (t : Tables) (made : Result X E) (told : Result Y F) → is_ok told ≡ is_ok made → Commits t old new waiting made → Commits t old new waiting told
+commits_told old new waiting t (Ok x) (Ok y) same commits = record { awaits = commits.awaits; settled = commits.settled; survives = commits.survives }
+commits_told old new waiting t (Ok x) (Err f) same commits = record { awaits = commits.awaits; settled = tt; survives = commits.survives }
+commits_told old new waiting t (Err e) (Err f) same commits = record { awaits = commits.awaits; settled = tt; survives = commits.survives }
+commits_told old new waiting t (Err e) (Ok y) same commits = absurd cc

@@ -1,43 +1,43 @@
 //! The keeper of rows that reads from memory and writes to a file too.
-ghost use Rattle.std.specs.Prelude.{◌≡◌, IsTrue, is_ok};
+ghost use Rattle.std.specs.Prelude.{◌≡◌, length, take, IsTrue, OnOk, OnErr};
 ghost use Rattle.sqlite.specs.State.{HasCleanDisk};
 ghost use Rattle.sqlite.specs.Files.{file_state};
 ghost use Rattle.s3_rows.specs.Columns.{Tables};
+ghost use Rattle.s3_stored_rows.specs.Changes.{after_all};
 ghost use Rattle.s3_tables.specs.Keeping.{tables as file_tables};
 ghost use Rattle.s3_mirrored_rows.specs.Mirror.{MayLeave};
 
+use crate::committing::{add_waiting, commit};
 use s3_records::CommitError;
 use s3_sql_rows::SqlRows;
-use s3_storage::StorageFault;
 use s3_stored_rows::{
     Change, StoreNumbers, StoredBucket, StoredPart, StoredRows, StoredUpload, StoredVersion,
 };
-use s3_table_files::FileTables;
+use s3_table_files::{FileTables, SpareRoom};
 use s3_tables::stored_tables_are_one;
 use s3_terms::NoMemory;
 use std::alloc::Global;
 use std::marker::Model;
 
-/// Rows in memory, and a file of the same tables. All that is asked is answered from memory. A list of changes is made in the
-/// file, which syncs its disk, and then in memory.
+/// Rows in memory, and a file of the same tables. All that is asked is answered from memory. A list of changes is made in memory, and
+/// waits to be made in the file: `commit` makes all that wait in one transaction, which syncs the disk of the file.
 ///
-/// Contracts see the rows in memory and the connection of the file. Where the file has an error, memory keeps what it had: the
-/// next open finds the list whole or not at all, and one that the disk has shut changes no more. Where the file was only short
-/// of memory, it is asked again with the next bucket or commit. Where a list was made in the file and memory ran out before it was
-/// made in memory, the file is written no more, and each later change or commit has an error: the next open finds that list whole.
+/// Contracts see the rows in memory and the connection of the file. A change has an error where memory runs out, and where the folder
+/// doesn't hold the room that is spared for a commit; then it changes nothing, and nothing waits for it. Where a commit has an error, all
+/// that waited waits on for the next one; a file that the disk has shut takes no more.
 #[derive(Drop)]
 pub struct MirroredRows {
     memory: SqlRows,
     file: FileTables,
-    // Whether each change of the file was made in memory too.
-    in_step: bool,
+    // Copies of the changes that memory has and the file hasn't, oldest first.
+    waiting: Vec<Change>,
+    spare: SpareRoom,
 }
 
 impl Model for MirroredRows {
-    ghost use Rattle.std.specs.Prelude.{IsTrue};
     ghost use Rattle.std.specs.Coded.{codes};
     ghost use Rattle.sqlite.specs.Files.{file_state};
-    ghost use Rattle.s3_mirrored_rows.specs.Mirror.{Mirror, mirror_code, Agrees};
+    ghost use Rattle.s3_mirrored_rows.specs.Mirror.{Mirror, mirror_code, Awaits};
 
     ghost Value = { Mirror };
 
@@ -45,12 +45,12 @@ impl Model for MirroredRows {
 
     ghost view = { λ m. record { memory = m.memory; file = m.file } };
 
-    ghost invariant = { λ m. IsTrue m.in_step → Agrees (file_state m.file) m.memory };
+    ghost invariant = { λ m. Awaits (file_state m.file) m.waiting.items m.memory };
 }
 
 impl MirroredRows {
-    /// The rows in memory over a file that has the same, and answers.
-    pub fn new(memory: SqlRows, file: FileTables) -> MirroredRows
+    /// The rows in memory over a file that has the same, and answers, in a folder that has this room to spare.
+    pub fn new(alloc: Global, memory: SqlRows, file: FileTables, spare: SpareRoom) -> MirroredRows
         requires open { HasCleanDisk (file_state file) → IsTrue (file_state file).is_open }
         requires same { HasCleanDisk (file_state file) → file_tables (file_state file) ≡ memory }
         ensures value { result ≡ record { memory = memory; file = file } }
@@ -61,23 +61,28 @@ impl MirroredRows {
         MirroredRows {
             memory,
             file,
-            in_step: true,
+            waiting: Vec::new(alloc),
+            spare,
         }
     }
 }
 
-// What is told of a file that was asked again.
-fn told(answer: Result<(), StorageFault>) -> Result<(), CommitError>
-    ensures { is_ok result ≡ is_ok answer }
+// Makes changes in memory, and has them wait for the file. An error leaves memory as it was, and those that waited in front.
+fn apply_both(
+    memory: &mut SqlRows,
+    waiting: &mut Vec<Change>,
+    changes: &[Change],
+) -> Result<(), NoMemory>
+    ensures ok { OnOk result (memory.new ≡ after_all changes.now memory.old) }
+    ensures err { OnErr result (memory.new ≡ memory.old) }
+    ensures more { OnOk result ((t : Tables) → after_all waiting.new.items t ≡ after_all changes.now (after_all waiting.old.items t)) }
+    ensures front { take (length waiting.old.items) waiting.new.items ≡ waiting.old.items }
 {
-    match answer {
-        Ok(()) => Ok(()),
-        Err(StorageFault::NoMemory) => Err(CommitError::NoMemory),
-        Err(_) => Err(CommitError::Failed),
-    }
+    add_waiting(waiting, changes)?;
+    memory.apply(changes)
 }
 
-/// A call that asks takes the time of the rows in memory. A change takes that of the file too, with its sync.
+/// A call that asks takes the time of the rows in memory, and a change that too; a commit takes that of the file, with its sync.
 impl StoredRows for MirroredRows {
     ghost tables = { λ rows. rows.memory };
 
@@ -87,37 +92,25 @@ impl StoredRows for MirroredRows {
         self.memory.are_unique();
     }
 
-    fn is_live(&self) -> bool {
-        stored_tables_are_one();
-        self.in_step && self.file.is_live()
-    }
-
     fn commit(&mut self) -> Result<(), CommitError> {
-        stored_tables_are_one();
-        if self.in_step {
-            told(self.file.wake())
-        } else {
-            Err(CommitError::Failed)
-        }
+        commit(&mut self.file, &mut self.waiting, &mut self.spare)
     }
 
     fn apply(&mut self, changes: &[Change]) -> Result<(), NoMemory> {
-        stored_tables_are_one();
-        if !self.in_step {
+        if !self.spare.hold() {
             return Err(NoMemory);
         }
-        match self.file.apply(changes) {
-            Ok(()) => {
-                let made = self.memory.apply(changes);
-                self.in_step = made.is_ok();
-                made
+        let before = self.waiting.len();
+        match apply_both(&mut self.memory, &mut self.waiting, changes) {
+            Ok(()) => Ok(()),
+            Err(failed) => {
+                self.waiting.truncate(before);
+                Err(failed)
             }
-            Err(_) => Err(NoMemory),
         }
     }
 
     fn bucket(&mut self, name: &[u8]) -> Result<Option<StoredBucket>, NoMemory> {
-        let _ = self.file.wake();
         self.memory.bucket(name)
     }
 

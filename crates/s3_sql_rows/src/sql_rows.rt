@@ -91,10 +91,6 @@ impl StoredRows for SqlRows {
         let _ = &self.known;
     }
 
-    fn is_live(&self) -> bool {
-        true
-    }
-
     fn commit(&mut self) -> Result<(), CommitError> {
         Ok(())
     }

@@ -1,12 +1,12 @@
 //! Bodies in memory.
-ghost use Rattle.std.specs.Prelude.{◌≡◌, ◌↔◌, ◌<◌, ◌^◌, [], ◌∷◌, Some, None, true, IsTrue, IfOk, OnOk, OnErr};
+ghost use Rattle.std.specs.Prelude.{⊤, ◌≡◌, ◌↔◌, ◌<◌, ◌^◌, [], ◌∷◌, Some, None, true, IsTrue, IfOk, OnOk, OnErr};
 ghost use Rattle.std.specs.FinMap as map;
 ghost use Rattle.s3_stored_bodies.specs.Numbers.{named_more};
 ghost use Rattle.s3_stored_bodies.specs.Held.{contents_of, uses_of, named_where_held};
 ghost use Rattle.s3_stored_bodies.specs.declared.held.HeldBody.{HeldBody};
 
 use crate::held::HeldBody;
-use crate::stored_bodies::StoredBodies;
+use crate::stored_bodies::{NotSettled, StoredBodies};
 use s3_bodies::Body;
 use s3_terms::NoMemory;
 use std::alloc::Global;
@@ -55,6 +55,11 @@ impl MemoryBodies {
         ensures { IsTrue result ↔ (0 < uses_of self.now number) }
     {
         self.by_number.contains_key(&number)
+    }
+
+    /// How many bodies there are. It serves to take room for each, and no clause tells of it.
+    pub fn count(&self) -> usize {
+        self.by_number.len()
     }
 
     /// Keeps a body for one row under a number that its caller chose, and which no row names. `NoMemory` leaves all as it
@@ -139,13 +144,17 @@ impl StoredBodies for MemoryBodies {
 
     ghost leaves = { λ _ _. ⊥ };
 
+    ghost outlives = { λ _ _ _. ⊤ };
+
     ghost named_where_there = { named_where_held };
 
     fn outlive_crashes(&self) {}
 
-    fn is_live(&self) -> bool {
-        true
+    fn settle(&mut self) -> Result<(), NotSettled> {
+        Ok(())
     }
+
+    fn let_go(&mut self) {}
 
     fn keep(&mut self, _alloc: Global, body: Body) -> Result<u64, NoMemory> {
         self.add(body)

@@ -1,5 +1,5 @@
 //! What every keeper of rows promises.
-ghost use Rattle.std.specs.Prelude.{◌≡◌, ◌⊎◌, true, map, take, option_map, slice_get, IfOk, OnOk, OnErr};
+ghost use Rattle.std.specs.Prelude.{◌≡◌, ◌⊎◌, map, take, option_map, slice_get, IfOk, OnOk, OnErr};
 ghost use Rattle.s3_rows.specs.Columns.{Tables};
 ghost use Rattle.s3_stored_rows.specs.Changes.{after_all, bucket_columns, version_columns, upload_columns, part_columns, store_columns};
 ghost use Rattle.s3_stored_rows.specs.Queries as spec;
@@ -28,30 +28,24 @@ pub trait StoredRows {
     fn are_unique(&self)
         ensures { AreUnique (tables self.now) };
 
-    /// Whether changes may go on: a crash now leaves these rows and nothing else. Where it is false a later change may still go
-    /// through, which asks again.
-    fn is_live(&self) -> bool
-        ensures settled { result ≡ true → (t : Tables) → leaves self.now t → t ≡ tables self.now };
-
-    /// Asks again where `is_live` isn't true. Where it answers `Ok`, a crash now leaves these rows and nothing else.
+    /// Commits all changes so far, together. Where it answers `Ok`, a crash now leaves these rows and nothing else; a crash during the
+    /// call leaves what it could leave before, or these rows.
     ///
     /// # Errors
     ///
-    /// `CommitError::NoMemory` where memory ran out before that was known: it may be asked again. `CommitError::Failed` where what the
-    /// rows stand on has failed, for good.
+    /// `CommitError::NoMemory` where memory ran out, or the keeper found no room, before that was so: it may be asked again.
+    /// `CommitError::Failed` where what the rows stand on has failed, for good.
     fn commit(&mut self) -> Result<(), CommitError>
         ensures settled { OnOk result ((t : Tables) → leaves self.new t → t ≡ tables self.new) }
         ensures same { tables self.new ≡ tables self.old }
-        ensures stays { (t : Tables) → leaves self.new t → leaves self.old t };
+        ensures survives { (t : Tables) → leaves self.new t → leaves self.old t ⊎ (t ≡ tables self.old) };
 
     /// Makes all changes in their order, or none. A change that adds a row where its rowid is there, or what is unique in its
-    /// table, is an error. Where it answers `Ok` no crash undoes them, and a crash during the call leaves what it could leave before,
-    /// or all of them.
+    /// table, is an error. Until they are committed a crash leaves what it could leave before.
     fn apply(&mut self, changes: &[Change]) -> Result<(), NoMemory>
         ensures ok { OnOk result (tables self.new ≡ after_all changes.now (tables self.old)) }
         ensures err { OnErr result (tables self.new ≡ tables self.old) }
-        ensures durable { OnOk result ((t : Tables) → leaves self.new t → t ≡ tables self.new) }
-        ensures survives { (t : Tables) → leaves self.new t → leaves self.old t ⊎ (t ≡ after_all changes.now (tables self.old)) };
+        ensures stays { (t : Tables) → leaves self.new t → leaves self.old t };
 
     /// The bucket of a name.
     fn bucket(&mut self, name: &[u8]) -> Result<Option<StoredBucket>, NoMemory>

@@ -9,7 +9,7 @@ use std::io::{self, ErrorKind};
 
 /// What an error of a database says of its files. One that isn't a database, or has other tables, holds something else; one
 /// whose bytes aren't those that were written is damaged.
-pub(crate) fn table_fault(error: Error) -> StorageFault
+pub fn table_fault(error: Error) -> StorageFault
     ensures value { result ≡ spec.table_fault error }
     ensures form { spec.IsOfTables result }
 {

@@ -6,10 +6,13 @@ mod faults;
 mod file_tables;
 mod folder;
 mod reading;
+mod spare_room;
 mod tables;
 
 pub use blocks::open_blocks;
+pub use faults::table_fault;
 pub use file_tables::FileTables;
 pub use folder::make_folder;
 pub use reading::read_tables;
+pub use spare_room::SpareRoom;
 pub use tables::open_tables;

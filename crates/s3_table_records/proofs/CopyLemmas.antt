@@ -1,5 +1,5 @@
 -- The bodies of the source of a copy: they are counted, and their bytes are those of the version that is asked for.
-use Rattle.std.proofs.Common.{◌≡◌, ap, ◌∙◌, ℕ, pos, List, [], Bool, true, false, cond, Option, Some, None, option_map, option_and_then, arith}
+use Rattle.std.proofs.Common.{◌≡◌, ap, ◌∙◌, ℕ, pos, List, [], true, false, cond, Option, Some, None, option_map, option_and_then, arith}
 use Rattle.std.specs.Prelude.{IfSome, unwrap_or}
 use Rattle.std.specs.Ordering.{int_eq}
 use Rattle.s3_names.specs.declared.ids.VersionId.{VersionId}
@@ -11,7 +11,7 @@ use Rattle.s3_records.specs.Catalogue.{versions_of, bytes_asked}
 use Rattle.s3_rows.specs.Columns.{VersionColumns, Tables}
 use Rattle.s3_rows.specs.Meaning.{data_of, version_of, catalogue_of}
 use Rattle.s3_stored_bodies.specs.Numbers.{Contents}
-use Rattle.s3_stored_rows.specs.Bodies.{bytes_in, encoding, version_numbers, numbers_named}
+use Rattle.s3_stored_rows.specs.Bodies.{bytes_in, encoding, version_numbers}
 use Rattle.s3_stored_rows.specs.Changes.{version_columns}
 use Rattle.s3_stored_rows.specs.declared.rows.StoredVersion.{StoredVersion}
 use Rattle.s3_row_values.specs.Values.{bytes_of}

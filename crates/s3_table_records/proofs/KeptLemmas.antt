@@ -1,6 +1,6 @@
 -- What is kept, as rows change and numbers of bodies come and go.
 use Rattle.std.proofs.Common.{◌≡◌, refl, sym, ap, subst, ◌∙◌, ℕ, ℤ, pos, ◌+◌, ◌<◌, ◌≤◌, cond, true, false, List, [], ◌∷◌, Option, Some, None, ◌↔◌, ◌+ℤ◌, arith}
-use Rattle.std.specs.Prelude.{int_lt, IsTrue, unwrap_or, Result, Ok, Err, OnOk, OnErr}
+use Rattle.std.specs.Prelude.{int_lt, Bool, is_err, IsTrue, unwrap_or, Result, Ok, Err, OnOk, OnErr}
 use Rattle.std.proofs.lemmas.Int.{ints}
 use Rattle.std.specs.Cmp.{nat_cmp_total, eq_by_cmp_equiv}
 use Rattle.std.specs.FinMap.{get, insert, get-insert}
@@ -84,10 +84,17 @@ all_left rows bodies t c u next is there outlive settled left found =
     found.means ∙ ap (catalogue_of (encoding found.contents)) (settled found.tables found.of_rows)
     ∙ left_catalogue c found.contents u t is.named there (outlive found.contents found.of_bodies)
 
--- what follows where an answer is no error
-pub on_ok : {X E A B : Type 0} (result : Result X E) → (A → B) → OnOk result A → OnOk result B
-on_ok (Ok x) follows is = follows is
-on_ok (Err error) follows is = cc
+-- the same rows and counts of rows are still kept
+pub still_kept : (t s : Tables) (c d : Contents) (u v : ℕ → ℕ) (next : ℤ) → s ≡ t → v ≡ u → IsKept (kept t c u next) → IsKept (kept s d v next)
+still_kept t s c d u v next same uses is = record {
+  rows = subst (AreKept next) (sym same) is.rows;
+  named = λ n. ap (λ (f : ℕ → ℕ). f n) uses ∙ is.named n ∙ ap (λ t. times n (numbers_named t)) (sym same);
+}
+
+-- what holds where a call answers no error, of one that did so
+pub where_ok : {X E A : Type 0} (result : Result X E) (failed : Bool) → failed ≡ is_err result → failed ≡ false → OnOk result A → A
+where_ok (Ok x) failed is unset holds = holds
+where_ok (Err error) failed is unset holds = absurd (cc (is, unset))
 
 -- ---- the next rowid grows
 

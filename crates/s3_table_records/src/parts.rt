@@ -13,7 +13,6 @@ ghost use Rattle.s3_row_changes.specs.Trading.{numbers_of};
 ghost use Rattle.s3_table_records.specs.Kept.{kept, catalogue, IsKept, Changes};
 
 use crate::found::{FoundPart, find_part};
-use crate::keeping::keep;
 use s3_bodies::Body;
 use s3_names::{BucketName, Key, PartNumber, UploadId};
 use s3_row_steps as steps;
@@ -129,7 +128,7 @@ fn put_found<R: StoredRows, B: StoredBodies>(
         (kept (R.tables rows.new) (B.contents bodies.new) (B.uses bodies.new) (next +ℤ pos 1))
         bucket.now (PartPut key.now id number (record { digest = described.now.digest; moment = described.now.moment; size = described.now.size; body = body })) result }
 {
-    let held = match keep(rows, bodies, alloc, body) {
+    let held = match bodies.keep(alloc, body) {
         Ok(held) => held,
         Err(failed) => return Err(failed),
     };

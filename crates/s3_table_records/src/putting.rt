@@ -6,7 +6,6 @@ ghost use Rattle.s3_records.specs.Catalogue.{has_bucket, versions_of};
 ghost use Rattle.s3_records.specs.Changes.{KeyChanged};
 ghost use Rattle.s3_table_records.specs.Kept.{kept, catalogue, IsKept, Changes};
 
-use crate::keeping::keep;
 use s3_bodies::Body;
 use s3_calendar::Moment;
 use s3_names::{BucketName, Key};
@@ -78,7 +77,7 @@ fn put_described<R: StoredRows, B: StoredBodies>(
 {
     rows_tell_buckets();
     rows_tell_versions();
-    let held = match keep(rows, bodies, alloc, body) {
+    let held = match bodies.keep(alloc, body) {
         Ok(held) => held,
         Err(failed) => return Err(failed),
     };

@@ -4,6 +4,7 @@ ghost use Rattle.s3_records.specs.Catalogue.{opening};
 ghost use Rattle.s3_rows.specs.Columns.{StoreColumns, no_rows};
 ghost use Rattle.s3_table_records.specs.Kept.{kept, kept_in, catalogue, IsKept, IsLeft};
 
+use crate::keeping::{commit_rows, let_go};
 use crate::{
     asking, buckets, completing, completion, copying, dropping, parts, putting, reading, uploads,
 };
@@ -79,11 +80,17 @@ impl<R: StoredRows, B: StoredBodies> Records for TableRecords<R, B> {
     ghost leaves = { λ records left. IsLeft (R.leaves records.rows) (B.leaves records.bodies) left };
 
     fn commit(&mut self) -> Result<(), CommitError> {
-        self.bodies.outlive_crashes();
-        if !self.bodies.is_live() {
+        if self.bodies.settle().is_err() {
             return Err(CommitError::Failed);
         }
-        self.rows.commit()
+        match commit_rows(&mut self.rows, &self.bodies) {
+            Ok(()) => {
+                let_go(&self.rows, &mut self.bodies);
+                self.bodies.outlive_crashes();
+                Ok(())
+            }
+            Err(error) => Err(error),
+        }
     }
 
     fn bucket(

@@ -15,6 +15,6 @@ over-records-requires g c =
 
 pub returns-in-Ok-clause-sound : goal.returns-in-Ok-clause-sound
 returns-in-Ok-clause-sound g c =
-    c.add_missing.ensures.sound c.args.found.now.number
+    c.make_missing.ensures.sound c.args.found.now.number
     (subst (λ r. IsSoundCatalogue (catalogue (kept_in g.R.StoredRows.tables g.B.StoredBodies.contents g.B.StoredBodies.uses r)) c.args.found.now.number)
     (sym c.over-records.ensures) (c.requires.found.sound (g.B.StoredBodies.contents c.args.bodies)))

@@ -1,37 +1,21 @@
-use Rattle.std.proofs.Common.{rules}
-use Rattle.std.specs.Prelude.{IsTrue, Ok, Err}
+use Rattle.std.proofs.Common.{◌≡◌, sym, ap, subst, ◌∙◌, arith}
+use Rattle.std.specs.Prelude.{take, length}
 use Rattle.sqlite.specs.Files.{file_state}
+use Rattle.s3_tables.specs.Keeping.{tables}
 use Rattle.s3_stored_rows.specs.Changes.{after_all}
-use Rattle.s3_mirrored_rows.proofs.MirrorLemmas.{survived, made_agrees, kept_agrees, made_stays, on_ok, was_made}
+use Rattle.s3_mirrored_rows.specs.Mirror.{Awaits}
 use Rattle.s3_mirrored_rows.proofs.mirrored_rows.MirroredRowsStoredRows.apply.Goals as goal
 
-pub invariant_of-self : goal.invariant_of-self
-invariant_of-self c is_ok =
-    let in_step : IsTrue c.self.inside.in_step = search rules in
-    made_agrees (after_all c.args.changes.now) (file_state c.self.inside.file) (file_state c.apply.new.self) c.self.inside.memory (c.self.invariant in_step) c.in-Ok.field-0 c.in-Ok.ensures c.apply-made.new.self
-    (was_made c.apply-made.result (search (rules, is_ok)) c.apply-made.ensures.ok)
+-- the file doesn't have the changes yet
+pub invariant_of-self-in-Ok : goal.invariant_of-self-in-Ok
+invariant_of-self-in-Ok c = λ clean up.
+    c.in-Ok.ensures.more (tables (file_state c.self.inside.file)) ∙ ap (after_all c.args.changes.now) (c.self.invariant clean up) ∙ sym c.in-Ok.ensures.ok
 
+-- what waited waits
 pub invariant_of-self-in-Err : goal.invariant_of-self-in-Err
-invariant_of-self-in-Err c in_step =
-    kept_agrees (after_all c.args.changes.now) (file_state c.self.inside.file) (file_state c.apply.new.self) c.self.inside.memory (c.self.invariant in_step) c.in-Err.field-0 c.in-Err.ensures
-
-pub returns-in-Ok-clause-durable : goal.returns-in-Ok-clause-durable
-returns-in-Ok-clause-durable c =
-    let in_step : IsTrue c.self.inside.in_step = search rules in
-    on_ok c.apply-made.result
-    (made_stays (after_all c.args.changes.now) (file_state c.self.inside.file) (file_state c.apply.new.self) c.self.inside.memory (c.self.invariant in_step) c.stored_tables_are_one.ensures.shown c.in-Ok.field-0 c.in-Ok.ensures c.apply-made.new.self)
-    c.apply-made.ensures.ok
-
-pub returns-in-Ok-clause-survives : goal.returns-in-Ok-clause-survives
-returns-in-Ok-clause-survives c =
-    let in_step : IsTrue c.self.inside.in_step = search rules in
-    rw (← c.self.view_is)
-    (survived (after_all c.args.changes.now) (file_state c.self.inside.file) (file_state c.apply.new.self) c.self.inside.memory (c.self.invariant in_step)
-    c.stored_tables_are_one.ensures.shown (Ok c.in-Ok.field-0) c.in-Ok.ensures)
-
-pub returns-in-Err-clause-survives : goal.returns-in-Err-clause-survives
-returns-in-Err-clause-survives c =
-    let in_step : IsTrue c.self.inside.in_step = search rules in
-    rw (← c.self.view_is)
-    (survived (after_all c.args.changes.now) (file_state c.self.inside.file) (file_state c.apply.new.self) c.self.inside.memory (c.self.invariant in_step)
-    c.stored_tables_are_one.ensures.shown (Err c.in-Err.field-0) c.in-Err.ensures)
+invariant_of-self-in-Err c =
+    let waited = c.self.inside.waiting in
+    let count : c.len-before.result ≡ length waited.items = omega (arith, c.len-before.ensures, waited.ok.0) in
+    let front = c.truncate.ensures.items ∙ ap (λ n. take n c.apply_both.new.waiting.items) count ∙ c.apply_both.ensures.front in
+    subst (λ waiting. Awaits (file_state c.self.inside.file) waiting c.apply_both.new.memory) (sym front)
+    (subst (λ memory. Awaits (file_state c.self.inside.file) c.self.inside.waiting.items memory) (sym c.in-Err.ensures.err) c.self.invariant)
