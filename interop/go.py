@@ -8,7 +8,7 @@ import subprocess
 import tempfile
 from pathlib import Path
 
-from clients import TOLD, Client, Lacking, in_order, ran
+from clients import TOLD, Client, Lacking, Missing, in_order, ran
 from commands import environment
 from server import BUCKET, ID, REGION
 
@@ -24,6 +24,11 @@ class MinioGo(Client):
     name = "minio-go"
     takes_certificate = True
     skipped_in_json = "it sends trailers of chunks, which JSON doesn't have"
+    limits = {
+        "64 MiB": "with the frames of its chunks the body is over the limit",
+        "bucket else": "it signs by the other region too",
+    }
+    calls = {"empty": "a body by Transfer-Encoding: chunked, of which it tells no length"}
     program = None
 
     @classmethod
@@ -53,6 +58,8 @@ class MinioGo(Client):
         status, wrote, said = ran([self.built(), *map(str, words)], env)
         if status:
             found = re.match(r"status (\d+)", said)
+            if "does not exist" in said:
+                raise Missing(said)
             raise TOLD.get(int(found[1]) if found else 0, RuntimeError)(said)
         return wrote
 
