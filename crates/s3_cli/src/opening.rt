@@ -18,7 +18,7 @@ pub fn opened_store<Q: Keeper>(
     keeper: &Q,
     config: &Config,
 ) -> Result<Store<Q::Kept>, NoMemory>
-    ensures { IfOk result (λ store. store ≡ opened (opening config.now.buckets)) }
+    ensures { IfOk result (λ store. store.standing ≡ opened (opening config.now.buckets)) }
 {
     numbers_stay_below::<Body>();
     let records = keeper.keep(alloc, config.buckets())?;

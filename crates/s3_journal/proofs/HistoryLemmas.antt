@@ -1,5 +1,5 @@
 -- A history stays legal with one entry more that has the answer of its step.
-use Rattle.std.proofs.Common.{◌≡◌, ◌+◌, ℕ, List, [], ◌∷◌, ◌++◌, length, sym, ◌∙◌, ap, subst, arith}
+use Rattle.std.proofs.Common.{◌≡◌, ◌+◌, ℕ, List, [], ◌∷◌, ◌++◌, length, Option, sym, ◌∙◌, ap, subst, arith}
 use Rattle.std.proofs.lemmas.List.{length-map, length_push, map-append}
 use Rattle.s3_history.specs.Log.{Origin}
 use Rattle.s3_machine.specs.History.{Entry, IsAnswer, Legal, after, after_entry}
@@ -17,12 +17,13 @@ answer_at rules n turn s = record { number = n; outcome = (step rules s n turn.m
 -- a recorded store that has answered one turn more keeps its history
 pub keeps_push : ((rules : Rules) (s : State) (n : ℕ) (es : List Entry) (e : Entry) → Legal rules s n es → IsAnswer rules (after rules s es) (n + length es) e → Legal rules s n (es ++ e ∷ []))
     → ((rules : Rules) (s : State) (es : List Entry) (e : Entry) → after rules s (es ++ e ∷ []) ≡ after_entry rules (after rules s es) e)
-    → (recorded_store : Journal) (seat : ℕ) (turn : Turn) (answer : Answer) (entries : List Recorded) (store : Standing) (origin : Origin) → KeepsHistory recorded_store
+    → (recorded_store : Journal) (seat : ℕ) (turn : Turn) (answer : Answer) (entries : List Recorded) (store : Standing) (origin : Origin) (committed : Option (List Recorded))
+    → KeepsHistory recorded_store
     → entries ≡ recorded_store.entries ++ recorded seat turn answer ∷ []
     → answer ≡ record { number = recorded_store.store.number; outcome = outcome_of recorded_store.rules recorded_store.store turn.moment turn.command }
     → store ≡ after_step recorded_store.rules recorded_store.store turn.moment turn.command
-    → KeepsHistory (record { origin = origin; rules = recorded_store.rules; opening = recorded_store.opening; entries = entries; store = store })
-keeps_push one_more leaves_one recorded_store seat turn answer entries store origin keeps added right steps =
+    → KeepsHistory (record { origin = origin; rules = recorded_store.rules; opening = recorded_store.opening; entries = entries; store = store; committed = committed })
+keeps_push one_more leaves_one recorded_store seat turn answer entries store origin committed keeps added right steps =
     let e : Entry = (recorded seat turn answer).entry in
     let es : List Entry = history_of recorded_store.entries in
     let history : history_of entries ≡ es ++ e ∷ [] =
@@ -48,5 +49,5 @@ keeps_push one_more leaves_one recorded_store seat turn answer entries store ori
     }
 
 -- what was told at the opening stays so, whatever the store comes to be
-pub told_stays : (told : List Standing) (old new : Standing) → told ≡ told_or told old ∷ [] → told_or told new ≡ told_or told old
-told_stays told old new one = ap (λ (ts : List Standing). told_or ts new) one
+pub told_stays : {S : Type 0} (told : List S) (old new : S) → told ≡ told_or told old ∷ [] → told_or told new ≡ told_or told old
+told_stays {S} told old new one = ap (λ (ts : List S). told_or ts new) one

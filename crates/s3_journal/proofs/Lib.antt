@@ -1,5 +1,6 @@
 pub mod AmongLemmas
 pub mod CountLemmas
+pub mod CrashLemmas
 pub mod GatherLemmas
 pub mod GoneLemmas
 pub mod HistoryLemmas

@@ -72,7 +72,7 @@ impl<R: Records + Drop> Start<R> {
         rosters: u16,
     ) -> Result<Start<R>, NoMemory>
         ensures settings { IfOk result (λ start. start.base.settings ≡ config.now) }
-        ensures store { IfOk result (λ start. start.base.store ≡ store) }
+        ensures store { IfOk result (λ start. start.base.store ≡ store.standing) }
         ensures rosters { IfOk result (λ start. start.rosters ≡ rosters) }
     {
         let rules = Rules::of(config);

@@ -1,8 +1,9 @@
 //! The recorded store.
-ghost use Rattle.std.specs.Prelude.{◌≡◌, ◌++◌, ◌∷◌, [], false, length, IfOk, OnOk, OnErr};
+ghost use Rattle.std.specs.Prelude.{◌≡◌, ◌++◌, ◌∷◌, List, [], false, length, Some, None, IfOk, OnOk, OnErr};
 ghost use mathlib.Core.List.{IsPrefix};
-ghost use Rattle.s3_journal.specs.RecordedStore.{KeepsHistory, MayLack};
-ghost use Rattle.s3_journal.specs.Recorded.{recorded};
+ghost use Rattle.s3_machine.specs.Step.{State};
+ghost use Rattle.s3_journal.specs.RecordedStore.{HasEntries, KeepsHistory, MayLack};
+ghost use Rattle.s3_journal.specs.Recorded.{Recorded, recorded};
 ghost use Rattle.s3_store.specs.Steps.{after_step, outcome_of};
 
 use crate::entry::Entry;
@@ -21,8 +22,9 @@ pub type Prefix = s3_history::Prefix<Entry>;
 /// A store, and the history of the commands that it answered, which no memory holds.
 ///
 /// Contracts see which history it is, and the rules of its server. They see the store as it was when the recorded store was
-/// opened, the entries since then, and the store as it is. Its type keeps that the entries are a legal history, which
-/// leads from the one to the other.
+/// opened, the entries since then, and the store as it is; and the entries as they were at the last commit that answered `Ok`.
+/// Its type keeps that the entries are a legal history, which leads from the one to the other; and, where a commit has answered
+/// `Ok`, that what a crash leaves is the state after a beginning of it that has all entries committed (`outlive_crashes`).
 #[derive(Drop)]
 pub struct RecordedStore<R: Records + Drop> {
     store: Store<R>,
@@ -32,23 +34,41 @@ pub struct RecordedStore<R: Records + Drop> {
     // The store at the opening, as the one entry of a history of its own.
     opening: s3_history::Prefix<Store<R>>,
     first: u64,
+    // What was known of the history at the last commit that answered `Ok`.
+    committed: Option<Prefix>,
 }
 
 impl<R: Records + Drop> Model for RecordedStore<R> {
-    ghost use Rattle.std.specs.Prelude.{◌≡◌, [], ◌∷◌};
+    ghost use Rattle.std.specs.Prelude.{◌≡◌, [], ◌∷◌, IfSome, option_map};
     ghost use Rattle.std.specs.Coded.{codes};
     ghost use Rattle.s3_store.specs.Steps.{coded_standing};
-    ghost use Rattle.s3_journal.specs.RecordedStore.{Journal, KeepsHistory, told_or};
+    ghost use Rattle.s3_journal.specs.RecordedStore.{Journal, KeepsHistory, LastsFrom, told_or};
 
     ghost Value = { Journal };
 
     ghost coded = { Prim.hlevel (codes, coded_standing) };
 
-    ghost view = { λ b. record { origin = b.recorder.origin; rules = b.rules; opening = told_or b.opening.entries b.store; entries = b.recorder.entries; store = b.store } };
+    ghost view = { λ b. record {
+      origin = b.recorder.origin;
+      rules = b.rules;
+      opening = (told_or b.opening.entries b.store).standing;
+      entries = b.recorder.entries;
+      store = b.store.standing;
+      committed = option_map (λ known. known.entries) b.committed;
+    } };
 
     ghost invariant = { λ b. (b.opening.entries ≡ told_or b.opening.entries b.store ∷ [])
-        × KeepsHistory (record { origin = b.recorder.origin; rules = b.rules; opening = told_or b.opening.entries b.store; entries = b.recorder.entries; store = b.store })
-        × (b.first ≡ (told_or b.opening.entries b.store).number) };
+        × KeepsHistory (record {
+          origin = b.recorder.origin;
+          rules = b.rules;
+          opening = (told_or b.opening.entries b.store).standing;
+          entries = b.recorder.entries;
+          store = b.store.standing;
+          committed = option_map (λ known. known.entries) b.committed;
+        })
+        × (b.first ≡ (told_or b.opening.entries b.store).standing.number)
+        × IfSome b.committed (λ known.
+        LastsFrom (R.leaves_one_of b.store.records) b.rules (told_or b.opening.entries b.store).standing.state b.recorder.entries known.entries) };
 }
 
 impl<R: Records + Drop> RecordedStore<R> {
@@ -56,7 +76,7 @@ impl<R: Records + Drop> RecordedStore<R> {
     /// no contract can say so.
     pub fn new(alloc: Global, rules: Rules, store: Store<R>) -> Result<RecordedStore<R>, NoMemory>
         ensures { IfOk result (λ recorded_store.
-            recorded_store ≡ record { origin = recorded_store.origin; rules = rules; opening = store; entries = []; store = store }) }
+            recorded_store ≡ record { origin = recorded_store.origin; rules = rules; opening = store.standing; entries = []; store = store.standing; committed = None }) }
     {
         let Some(recorder) = Recorder::new() else {
             return Err(NoMemory);
@@ -69,19 +89,21 @@ impl<R: Records + Drop> RecordedStore<R> {
             rules,
             alloc,
             recorder,
+            committed: None,
         })
     }
 
     /// Folds the history: it begins anew and empty, at the store as it is, whose next entry has the number that it would have had.
     /// So the two histories, one after another, are the history without a fold (`histories_are_cut_anywhere` of `s3_machine`), and
-    /// every later answer is as it would have been. It copies nothing, and takes the same time whatever the store holds.
+    /// every later answer is as it would have been. It copies nothing, and takes the same time whatever the store holds. Nothing is
+    /// known of commits before it.
     ///
     /// # Errors
     ///
     /// `NoMemory` leaves all as it was. It never comes, though no contract can say so.
     pub fn fold(&mut self) -> Result<(), NoMemory>
         ensures ok { OnOk result (self.new
-            ≡ record { origin = self.new.origin; rules = self.old.rules; opening = self.old.store; entries = []; store = self.old.store }) }
+            ≡ record { origin = self.new.origin; rules = self.old.rules; opening = self.old.store; entries = []; store = self.old.store; committed = None }) }
         ensures err { OnErr result (self.new ≡ self.old) }
     {
         let Some(recorder) = Recorder::new() else {
@@ -91,6 +113,7 @@ impl<R: Records + Drop> RecordedStore<R> {
         self.first = self.store.number();
         self.opening = opening;
         self.recorder = recorder;
+        self.committed = None;
         Ok(())
     }
 
@@ -120,6 +143,7 @@ impl<R: Records + Drop> RecordedStore<R> {
         ensures rules { self.new.rules ≡ self.old.rules }
         ensures opening { self.new.opening ≡ self.old.opening }
         ensures origin { self.new.origin ≡ self.old.origin }
+        ensures committed { self.new.committed ≡ self.old.committed }
         ensures err { OnErr result (self.new ≡ self.old) }
         ensures memory { OnErr result (MayLack R.is_in_memory self.old.rules self.old.store turn) }
     {
@@ -140,18 +164,37 @@ impl<R: Records + Drop> RecordedStore<R> {
     ///
     /// # Errors
     ///
-    /// Those of `Records::commit`. The recorded store is as it was. Records in memory have no error here.
+    /// Those of `Records::commit`. The recorded store is as it was, as contracts see it. Records in memory have no error here.
     pub fn commit(&mut self) -> Result<(), CommitError>
-        ensures same { self.new ≡ self.old }
+        ensures ok { OnOk result (self.new ≡ record self.old { committed = Some self.old.entries }) }
+        ensures err { OnErr result (self.new ≡ self.old) }
         ensures memory { OnErr result (R.is_in_memory ≡ false) }
     {
-        self.store.commit()
+        match self.store.commit() {
+            Ok(()) => {
+                self.committed = Some(self.recorder.prefix());
+                Ok(())
+            }
+            Err(error) => Err(error),
+        }
+    }
+
+    /// The store, with what is known of a crash now. Where a commit answered `Ok` since the history began, a crash leaves nothing, or
+    /// the state after a beginning of the history that has all entries which were there at the last such commit. Else nothing is
+    /// known of it. It costs nothing.
+    pub fn outlive_crashes(&self) -> &Store<R>
+        ensures value { result.now.standing ≡ self.now.store }
+        ensures lasts { (front : List Recorded) (left : State) → self.now.committed ≡ Some front → R.leaves result.now.records left
+            → HasEntries self.now front left }
+    {
+        self.store.outlive_crashes();
+        &self.store
     }
 
     /// The store as it is, to which the history leads. The history is legal, so that every law of `s3_machine` about legal
     /// histories holds of it.
     pub fn store(&self) -> &Store<R>
-        ensures value { result.now ≡ self.now.store }
+        ensures value { result.now.standing ≡ self.now.store }
         ensures history { KeepsHistory self.now }
     {
         &self.store

@@ -59,8 +59,8 @@ impl<'a, J: Ground, R: Records + Drop> Turns<'a, J, R> {
         self.room.answer(seat, turn)
     }
 
-    /// Commits the turns of the batch, and lets the lock go. Where it answers `Ok`, their answers may be told: a crash leaves what
-    /// they changed (as the records' `commit` says).
+    /// Commits the turns of the batch, and lets the lock go. Where it answers `Ok`, their answers may be told: the recorded store has
+    /// committed them, and `RecordedStore::outlive_crashes` says what a crash leaves then. No clause of this call does.
     ///
     /// # Errors
     ///

@@ -4,6 +4,7 @@ ghost use Rattle.s3_text.specs.Order.{rises};
 ghost use Rattle.s3_records.specs.Rows.{key_rows, keys_from};
 ghost use Rattle.s3_records.specs.declared.rows.KeyRow.{KeyRow};
 ghost use Rattle.s3_records.specs.declared.rows.Start.{Start};
+ghost use Rattle.s3_records.specs.Leaving.{StaysKnown};
 ghost use Rattle.s3_listings.specs.Objects.{objects_told};
 ghost use Rattle.s3_listings.specs.Drafts.{drafted, left_from, AreBehindStart, with_rows, TakesBatch, IsLastKey};
 
@@ -33,6 +34,7 @@ pub fn list_objects<R: Records>(
     ensures value { IfOk result (λ page. page ≡ objects_told asked.now (key_rows (R.catalogue records.old) bucket.now)) }
     ensures same { R.catalogue records.new ≡ R.catalogue records.old }
     ensures memory { OnErr result (0 < asked.now.max_keys) }
+    ensures stays { StaysKnown R.leaves_one_of records.old records.new }
 {
     // Contracts see the bytes of an object as they see a key, as a list.
     keys_rise::<Key>();
@@ -57,6 +59,7 @@ fn fill<R: Records>(
     ensures page { OnOk result (with_rows asked.now (drafted draft.new) []
         ≡ with_rows asked.now (drafted draft.old) (left_from (Some start) (key_rows (R.catalogue records.old) bucket.now))) }
     ensures same { R.catalogue records.new ≡ R.catalogue records.old }
+    ensures stays { StaysKnown R.leaves_one_of records.old records.new }
 {
     let mut start = start;
     loop {
@@ -80,6 +83,7 @@ fn step<R: Records>(
     ensures batch { IfOk result (λ next. TakesBatch asked.now (drafted draft.old) (drafted draft.new) (Some start) next
         (key_rows (R.catalogue records.old) bucket.now)) }
     ensures same { R.catalogue records.new ≡ R.catalogue records.old }
+    ensures stays { StaysKnown R.leaves_one_of records.old records.new }
 {
     let most = rows_at_once(asked, draft.room());
     let found = records.keys_from(alloc, bucket, &start, most);

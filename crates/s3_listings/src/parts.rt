@@ -1,6 +1,7 @@
 //! The list of an upload's parts, page by page.
 ghost use Rattle.std.specs.Prelude.{◌≡◌, ◌<◌, IfOk, OnErr};
 ghost use Rattle.s3_records.specs.OpenUploads.{parts_at};
+ghost use Rattle.s3_records.specs.Leaving.{StaysKnown};
 ghost use Rattle.s3_listings.specs.Parts.{parts_page};
 
 use crate::{ListPage, PartPage, PartsAsked};
@@ -23,6 +24,7 @@ pub fn list_parts<R: Records>(
     ensures value { IfOk result (λ page. page ≡ parts_page asked.now (parts_at (R.catalogue records.old) bucket.now key.now id)) }
     ensures same { R.catalogue records.new ≡ R.catalogue records.old }
     ensures memory { OnErr result (0 < asked.now.max_parts) }
+    ensures stays { StaysKnown R.leaves_one_of records.old records.new }
 {
     let most = asked.max_parts as usize;
     if most == 0 {

@@ -3,6 +3,7 @@ ghost use Rattle.std.specs.Prelude.{◌≡◌, ◌≢◌, ◌<◌, ◌+◌, ℕ,
 ghost use Rattle.std.specs.List.{AllByRecursion, AllWithin, starts_with};
 ghost use Rattle.s3_names.specs.Names.{is_key};
 ghost use Rattle.s3_records.specs.Catalogue.{Catalogue};
+ghost use Rattle.s3_records.specs.Leaving.{StaysKnown};
 ghost use Rattle.s3_prefixes.specs.Items.{is_before};
 ghost use Rattle.s3_listings.specs.Pages.{page_of};
 ghost use Rattle.s3_listings.specs.Rolled.{items_asked, rows_told};
@@ -47,7 +48,8 @@ pub(crate) trait Listed: Drop {
         most: usize,
     ) -> Result<Vec<Self>, NoMemory>
         ensures value { IfOk result (λ rows. rows.items ≡ take most (rows_from key start (all (R.catalogue records.old) bucket.now))) }
-        ensures same { R.catalogue records.new ≡ R.catalogue records.old };
+        ensures same { R.catalogue records.new ≡ R.catalogue records.old }
+        ensures stays { StaysKnown R.leaves_one_of records.old records.new };
 
     /// The rows behind a marker, at most so many.
     fn rows_behind<R: Records>(
@@ -59,7 +61,8 @@ pub(crate) trait Listed: Drop {
         most: usize,
     ) -> Result<Vec<Self>, NoMemory>
         ensures value { IfOk result (λ rows. rows.items ≡ take most (behind (R.catalogue records.old) bucket.now marker id)) }
-        ensures same { R.catalogue records.new ≡ R.catalogue records.old };
+        ensures same { R.catalogue records.new ≡ R.catalogue records.old }
+        ensures stays { StaysKnown R.leaves_one_of records.old records.new };
 
     /// A law, with nothing to run: the rows stand by key, and those behind a marker are of a later key, or of its own.
     fn stand_by_key()
@@ -110,6 +113,7 @@ fn rows_at_least<T: Listed, R: Records>(
     requires { 0 < most }
     ensures value { IfOk result (λ rows. rows.items ≡ take most (rows_at_least T.key text.now (T.all (R.catalogue records.old) bucket.now))) }
     ensures same { R.catalogue records.new ≡ R.catalogue records.old }
+    ensures stays { StaysKnown R.leaves_one_of records.old records.new }
 {
     let start = from_text(alloc, text)?;
     rows_at_least_from(records, alloc, bucket, start, text, most)
@@ -129,6 +133,7 @@ fn rows_at_least_from<T: Listed, R: Records>(
     requires covers { Covers start text.now }
     ensures value { IfOk result (λ rows. rows.items ≡ take most (rows_at_least T.key text.now (T.all (R.catalogue records.old) bucket.now))) }
     ensures same { R.catalogue records.new ≡ R.catalogue records.old }
+    ensures stays { StaysKnown R.leaves_one_of records.old records.new }
 {
     T::stand_by_key();
     let mut start = start;
@@ -163,6 +168,7 @@ fn rows_from_no_key<T: Listed, R: Records>(
     ensures value { IfOk result (λ rows. rows.items ≡ take most (rows_at_least T.key marker.now (T.all (R.catalogue records.old) bucket.now))) }
     ensures free { IfOk result (λ rows. IfSome (slice_get rows.items 0) (λ row. T.key row ≢ marker.now)) }
     ensures same { R.catalogue records.new ≡ R.catalogue records.old }
+    ensures stays { StaysKnown R.leaves_one_of records.old records.new }
 {
     let rows = rows_at_least::<T, R>(records, alloc, bucket, marker, most)?;
     first_is_key(&rows);
@@ -181,6 +187,7 @@ fn rows_sought<T: Listed, R: Records>(
     ensures value { IfOk result (λ rows. rows.items
         ≡ take most (rows_at_least T.key wanted.now.prefix.now (T.behind (R.catalogue records.old) bucket.now wanted.now.marker.now wanted.now.id))) }
     ensures same { R.catalogue records.new ≡ R.catalogue records.old }
+    ensures stays { StaysKnown R.leaves_one_of records.old records.new }
 {
     T::stand_by_key();
     if is_before(wanted.marker, wanted.prefix) {
@@ -231,6 +238,7 @@ fn rows_asked<T: Listed, R: Records>(
     ensures value { IfOk result (λ rows. rows.items
         ≡ take most (filter (begins_with T.key wanted.now.prefix.now) (T.behind (R.catalogue records.old) bucket.now wanted.now.marker.now wanted.now.id))) }
     ensures same { R.catalogue records.new ≡ R.catalogue records.old }
+    ensures stays { StaysKnown R.leaves_one_of records.old records.new }
 {
     T::stand_by_key();
     let rows = rows_sought(records, alloc, bucket, wanted, most)?;
@@ -250,6 +258,7 @@ fn rows_page<T: Listed, R: Records>(
         ≡ page_of most (filter (begins_with T.key wanted.now.prefix.now) (T.behind (R.catalogue records.old) bucket.now wanted.now.marker.now wanted.now.id))) }
     ensures same { R.catalogue records.new ≡ R.catalogue records.old }
     ensures memory { OnErr result (0 < most) }
+    ensures stays { StaysKnown R.leaves_one_of records.old records.new }
 {
     let most = most as usize;
     if most == 0 {
@@ -276,6 +285,7 @@ fn rows_beyond<T: Listed, R: Records>(
     ensures value { IfOk result (λ rows. rows.items
         ≡ take most (filter (begins_with T.key prefix.now) (rows_at_least T.key text.now (T.all (R.catalogue records.old) bucket.now)))) }
     ensures same { R.catalogue records.new ≡ R.catalogue records.old }
+    ensures stays { StaysKnown R.leaves_one_of records.old records.new }
 {
     T::stand_by_key();
     let rows = rows_at_least_from(records, alloc, bucket, start, text, most)?;
@@ -307,6 +317,7 @@ fn rows_at<T: Listed, R: Records>(
     ensures value { IfOk result (λ rows. rows.items ≡ take most (left_at T.key
         (filter (begins_with T.key wanted.now.prefix.now) (T.behind (R.catalogue records.old) bucket.now wanted.now.marker.now wanted.now.id)) place.now)) }
     ensures same { R.catalogue records.new ≡ R.catalogue records.old }
+    ensures stays { StaysKnown R.leaves_one_of records.old records.new }
 {
     T::stand_by_key();
     match place {
@@ -347,6 +358,7 @@ fn enough_rows<T: Listed, R: Records>(
     ensures value { IfOk result (λ rows. AreEnough T.key rolling.now.prefix rolling.now.delimiter most (left_at T.key
         (filter (begins_with T.key wanted.now.prefix.now) (T.behind (R.catalogue records.old) bucket.now wanted.now.marker.now wanted.now.id)) place.now) rows.items) }
     ensures same { R.catalogue records.new ≡ R.catalogue records.old }
+    ensures stays { StaysKnown R.leaves_one_of records.old records.new }
 {
     let few = BATCH.min(most);
     let rows = rows_at::<T, R>(records, alloc, bucket, wanted, place, few)?;
@@ -371,6 +383,7 @@ fn items_asked<T: Listed, R: Records>(
     ensures value { IfOk result (λ items. take most items.items ≡ take most (items_asked T.key rolling.now.prefix rolling.now.delimiter wanted.now.marker.now
         (filter (begins_with T.key wanted.now.prefix.now) (T.behind (R.catalogue records.old) bucket.now wanted.now.marker.now wanted.now.id)))) }
     ensures same { R.catalogue records.new ≡ R.catalogue records.old }
+    ensures stays { StaysKnown R.leaves_one_of records.old records.new }
 {
     T::stand_by_key();
     let mut items = Vec::new(alloc);
@@ -420,6 +433,7 @@ fn rolled_page<T: Listed, R: Records>(
         (items_asked T.key rolling.now.prefix rolling.now.delimiter wanted.now.marker.now
         (filter (begins_with T.key wanted.now.prefix.now) (T.behind (R.catalogue records.old) bucket.now wanted.now.marker.now wanted.now.id))))) }
     ensures same { R.catalogue records.new ≡ R.catalogue records.old }
+    ensures stays { StaysKnown R.leaves_one_of records.old records.new }
 {
     let mut items = items_asked::<T, R>(records, alloc, bucket, wanted, rolling, most + 1)?;
     items.truncate(most + 1);
@@ -444,6 +458,7 @@ pub(crate) fn page_asked<T: Listed, R: Records>(
         (filter (begins_with T.key wanted.now.prefix.now) (T.behind (R.catalogue records.old) bucket.now wanted.now.marker.now wanted.now.id))))) }
     ensures same { R.catalogue records.new ≡ R.catalogue records.old }
     ensures memory { OnErr result (0 < most) }
+    ensures stays { StaysKnown R.leaves_one_of records.old records.new }
 {
     if most == 0 || delimiter.as_bytes().is_empty() {
         let page = rows_page::<T, R>(records, alloc, bucket, wanted, most)?;

@@ -1,6 +1,7 @@
 //! The list of the uploads in a bucket, page by page.
 ghost use Rattle.std.specs.Prelude.{◌≡◌, ◌<◌, take, IfOk, OnErr};
 ghost use Rattle.s3_records.specs.OpenUploads.{upload_rows, uploads_from};
+ghost use Rattle.s3_records.specs.Leaving.{StaysKnown};
 ghost use Rattle.s3_listings.specs.Uploads.{marked, uploads_told};
 
 use crate::sought::{Listed, Wanted, page_asked};
@@ -47,6 +48,7 @@ impl Listed for UploadRow {
     ) -> Result<Vec<UploadRow>, NoMemory>
         ensures value { IfOk result (λ rows. rows.items ≡ take most (uploads_from (R.catalogue records.old) bucket.now (marked marker id))) }
         ensures same { R.catalogue records.new ≡ R.catalogue records.old }
+        ensures stays { StaysKnown R.leaves_one_of records.old records.new }
     {
         records.uploads_from(alloc, bucket, &marked(marker, id), most)
     }
@@ -80,6 +82,7 @@ pub fn list_uploads<R: Records>(
     ensures value { IfOk result (λ page. page ≡ uploads_told asked.now (R.catalogue records.old) bucket.now) }
     ensures same { R.catalogue records.new ≡ R.catalogue records.old }
     ensures memory { OnErr result (0 < asked.now.max_uploads) }
+    ensures stays { StaysKnown R.leaves_one_of records.old records.new }
 {
     let wanted = Wanted {
         prefix: asked.prefix.as_bytes(),

@@ -1,6 +1,7 @@
 //! The list of a bucket's versions, page by page.
 ghost use Rattle.std.specs.Prelude.{◌≡◌, ◌<◌, take, IfOk, OnErr};
 ghost use Rattle.s3_records.specs.Rows.{version_rows, versions_from};
+ghost use Rattle.s3_records.specs.Leaving.{StaysKnown};
 ghost use Rattle.s3_listings.specs.Versions.{marked, versions_told};
 
 use crate::sought::{Listed, Wanted, page_asked};
@@ -47,6 +48,7 @@ impl Listed for VersionRow {
     ) -> Result<Vec<VersionRow>, NoMemory>
         ensures value { IfOk result (λ rows. rows.items ≡ take most (versions_from (R.catalogue records.old) bucket.now (marked marker id))) }
         ensures same { R.catalogue records.new ≡ R.catalogue records.old }
+        ensures stays { StaysKnown R.leaves_one_of records.old records.new }
     {
         records.versions_from(alloc, bucket, &marked(marker, id), most)
     }
@@ -77,6 +79,7 @@ pub fn list_versions<R: Records>(
     ensures value { IfOk result (λ page. page ≡ versions_told asked.now (R.catalogue records.old) bucket.now) }
     ensures same { R.catalogue records.new ≡ R.catalogue records.old }
     ensures memory { OnErr result (0 < asked.now.max_keys) }
+    ensures stays { StaysKnown R.leaves_one_of records.old records.new }
 {
     let wanted = Wanted {
         prefix: asked.prefix.as_bytes(),

@@ -4,6 +4,7 @@ pub mod Codes
 pub mod DeletionLaws
 pub mod Deletions
 pub mod Laws
+pub mod Leaving
 pub mod Merging
 pub mod OpenUploads
 pub use Rattle.s3_versions.specs.Rules

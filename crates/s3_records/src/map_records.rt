@@ -1,5 +1,5 @@
 //! Records in memory.
-ghost use Rattle.std.specs.Prelude.{◌≡◌, ◌≢◌, [], true, false, None, IfOk, OnOk, OnErr, IsOk, IsTrue};
+ghost use Rattle.std.specs.Prelude.{⊤, ◌≡◌, ◌≢◌, [], true, false, None, IfOk, OnOk, OnErr, IsOk, IsTrue};
 ghost use Rattle.std.specs.FinMap as map;
 ghost use Rattle.std.specs.Option.{option_copied};
 ghost use Rattle.s3_versions.specs.Rules.{asked_for};
@@ -136,6 +136,12 @@ impl Records for MapRecords {
     ghost is_in_memory = { true };
 
     ghost leaves = { λ _ _. ⊥ };
+
+    ghost leaves_one_of = { λ _ _. ⊤ };
+
+    ghost or_of_more = { λ _ _ _ _ _. tt };
+
+    fn outlive_crashes(&self) {}
 
     fn commit(&mut self) -> Result<(), CommitError> {
         Ok(())

@@ -1,10 +1,11 @@
 //! What every keeper of records promises.
-ghost use Rattle.std.specs.Prelude.{◌≡◌, ◌≢◌, ℕ, List, [], Bool, true, false, Some, None, Ok, IfOk, OnOk, OnErr, IsOk, IsTrue, find, take, is_some, option_and_then};
+ghost use Rattle.std.specs.Prelude.{◌≡◌, ◌≢◌, ℕ, List, [], ◌∷◌, Bool, true, false, Some, None, Ok, IfOk, OnOk, OnErr, IsOk, IsTrue, find, take, is_some, option_and_then};
 ghost use Rattle.s3_versions.specs.Rules.{is_under, asked_for, facts_read, pick, stored, replaced, is_new_number, VersionPut, KeyDeleted, VersionDropped};
 ghost use Rattle.s3_records.specs.Catalogue.{Catalogue, facts_in, listed_buckets, has_bucket, is_empty_bucket, versions_of, bytes_asked, versioning_of};
 ghost use Rattle.s3_uploads.specs.Parts.{part_at, rows_behind};
 ghost use Rattle.s3_records.specs.Changes.{changed, BucketAdded, BucketDropped, VersioningSet, KeyChanged, UploadAdded, PartPut, UploadDropped, UploadCompleted};
 ghost use Rattle.s3_records.specs.Deletions.{all_deleted, markers_of};
+ghost use Rattle.s3_records.specs.Leaving.{IsOneOf, StaysKnown};
 ghost use Rattle.s3_records.specs.OpenUploads.{upload_at, parts_at, bytes_listed, completed_at, uploads_from};
 ghost use Rattle.s3_records.specs.Places.{AreBelow};
 ghost use Rattle.s3_records.specs.Rows.{keys_from, versions_from};
@@ -45,6 +46,8 @@ pub struct ListedBucket {
 /// Each call has `NoMemory` as its only error, and leaves the catalogue as it was then. What was passed to it by value
 /// is dropped. A keeper may hold all in memory (`is_in_memory`). A call tells where such a keeper can have the error;
 /// where it tells nothing, that can come at any time.
+///
+/// What a crash leaves changes by `commit` alone: until that a crash leaves what it could leave before the change.
 pub trait Records {
     ghost catalogue: { Self → Catalogue (List ℕ) };
 
@@ -55,15 +58,29 @@ pub trait Records {
     // and nothing is said of a disk that doesn't give back what was written to it.
     ghost leaves: { Self → Catalogue (List ℕ) → Type 0 };
 
+    // That a crash now leaves one of these catalogues, or nothing.
+    ghost leaves_one_of: { Self → List (Catalogue (List ℕ)) → Type 0 };
+
+    // The same of more catalogues.
+    ghost or_of_more: { (records : Self) (known more : List (Catalogue (List ℕ)))
+        → ((c : Catalogue (List ℕ)) → IsOneOf c known → IsOneOf c more) → leaves_one_of records known → leaves_one_of records more };
+
+    /// That what a crash leaves is one of the catalogues of which that is known. It costs nothing.
+    fn outlive_crashes(&self)
+        ensures { (known : List (Catalogue (List ℕ))) (left : Catalogue (List ℕ))
+            → leaves_one_of self.now known → leaves self.now left → IsOneOf left known };
+
     /// Commits all changes so far: where it answers `Ok`, a crash now leaves the catalogue as it is and no other, so that their
-    /// answers may be told. A keeper in memory, of which a crash leaves nothing, has no error here.
+    /// answers may be told. A crash before that, also during the call, leaves what it could leave before, or this. A keeper in
+    /// memory, of which a crash leaves nothing, has no error here.
     ///
     /// # Errors
     ///
-    /// `CommitError::NoMemory` where memory ran out before the keeper knew: it may be asked again. `CommitError::Failed` where what
-    /// it stands on has failed, for good.
+    /// `CommitError::NoMemory` where memory ran out, or the keeper found no room, before it knew: it may be asked again.
+    /// `CommitError::Failed` where what it stands on has failed, for good.
     fn commit(&mut self) -> Result<(), CommitError>
-        ensures settled { OnOk result ((left : Catalogue (List ℕ)) → leaves self.new left → left ≡ catalogue self.new) }
+        ensures settled { OnOk result (leaves_one_of self.new (catalogue self.new ∷ [])) }
+        ensures in_doubt { (known : List (Catalogue (List ℕ))) → leaves_one_of self.old known → leaves_one_of self.new (catalogue self.old ∷ known) }
         ensures same { catalogue self.new ≡ catalogue self.old }
         ensures memory { OnErr result (is_in_memory ≡ false) };
 
@@ -73,12 +90,14 @@ pub trait Records {
         ensures value { IfOk result (λ facts. facts ≡ facts_in (catalogue self.old) name.now) }
         ensures there { IfOk result (λ facts. is_some facts ≡ has_bucket (catalogue self.old) name.now) }
         ensures same { catalogue self.new ≡ catalogue self.old }
+        ensures stays { StaysKnown leaves_one_of self.old self.new }
         ensures memory { OnErr result (is_in_memory ≡ false) };
 
     /// All buckets, by name in the order of bytes. A keeper in memory has no error where there is none.
     fn buckets(&mut self, alloc: Global) -> Result<Vec<ListedBucket>, NoMemory>
         ensures value { IfOk result (λ rows. rows.items ≡ listed_buckets (catalogue self.old)) }
         ensures same { catalogue self.new ≡ catalogue self.old }
+        ensures stays { StaysKnown leaves_one_of self.old self.new }
         ensures memory { OnErr result (is_in_memory ≡ true → listed_buckets (catalogue self.old) ≢ []) };
 
     /// Whether a bucket has nothing in it, not even a delete marker or an open upload. It is true where there is no
@@ -86,6 +105,7 @@ pub trait Records {
     fn is_empty(&mut self, alloc: Global, name: &BucketName) -> Result<bool, NoMemory>
         ensures value { IfOk result (λ is_empty. is_empty ≡ is_empty_bucket (catalogue self.old) name.now) }
         ensures same { catalogue self.new ≡ catalogue self.old }
+        ensures stays { StaysKnown leaves_one_of self.old self.new }
         ensures memory { OnErr result (is_in_memory ≡ false) };
 
     /// The version that a request asks for: that of the id that it names, or the current one where it names none.
@@ -99,6 +119,7 @@ pub trait Records {
     ) -> Result<Option<Version<Body>>, NoMemory>
         ensures value { IfOk result (λ found. found ≡ asked_for asked (versions_of (catalogue self.old) bucket.now key.now)) }
         ensures same { catalogue self.new ≡ catalogue self.old }
+        ensures stays { StaysKnown leaves_one_of self.old self.new }
         ensures memory { OnErr result (
             is_in_memory ≡ true → option_and_then stored (asked_for asked (versions_of (catalogue self.old) bucket.now key.now)) ≢ None) };
 
@@ -114,6 +135,7 @@ pub trait Records {
         ensures value { IfOk result (λ facts. facts
             ≡ facts_read (pick asked (versions_of (catalogue self.old) bucket.now key.now))) }
         ensures same { catalogue self.new ≡ catalogue self.old }
+        ensures stays { StaysKnown leaves_one_of self.old self.new }
         ensures memory { OnErr result (is_in_memory ≡ false) };
 
     /// The rows of the keys of a bucket from a place on, by key in the order of bytes, and at most so many. There are
@@ -130,6 +152,7 @@ pub trait Records {
     ) -> Result<Vec<KeyRow>, NoMemory>
         ensures value { IfOk result (λ rows. rows.items ≡ take most (keys_from (catalogue self.old) bucket.now start.now)) }
         ensures same { catalogue self.new ≡ catalogue self.old }
+        ensures stays { StaysKnown leaves_one_of self.old self.new }
         ensures memory { OnErr result (
             is_in_memory ≡ true → take most (keys_from (catalogue self.old) bucket.now start.now) ≢ []) };
 
@@ -147,6 +170,7 @@ pub trait Records {
     ) -> Result<Vec<VersionRow>, NoMemory>
         ensures value { IfOk result (λ rows. rows.items ≡ take most (versions_from (catalogue self.old) bucket.now start.now)) }
         ensures same { catalogue self.new ≡ catalogue self.old }
+        ensures stays { StaysKnown leaves_one_of self.old self.new }
         ensures memory { OnErr result (
             is_in_memory ≡ true → take most (versions_from (catalogue self.old) bucket.now start.now) ≢ []) };
 
@@ -159,7 +183,8 @@ pub trait Records {
     ) -> Result<(), NoMemory>
         requires { has_bucket (catalogue self.old) name ≡ false }
         ensures ok { OnOk result (catalogue self.new ≡ changed (catalogue self.old) name (BucketAdded moment)) }
-        ensures err { OnErr result (catalogue self.new ≡ catalogue self.old) };
+        ensures err { OnErr result (catalogue self.new ≡ catalogue self.old) }
+        ensures stays { StaysKnown leaves_one_of self.old self.new };
 
     /// Drops a bucket, which has to be there and to have nothing in it. A keeper in memory has no error here.
     fn drop_bucket(&mut self, alloc: Global, name: &BucketName) -> Result<(), NoMemory>
@@ -167,6 +192,7 @@ pub trait Records {
         requires empty { IsTrue (is_empty_bucket (catalogue self.old) name.now) }
         ensures ok { OnOk result (catalogue self.new ≡ changed (catalogue self.old) name.now BucketDropped) }
         ensures err { OnErr result (catalogue self.new ≡ catalogue self.old) }
+        ensures stays { StaysKnown leaves_one_of self.old self.new }
         ensures memory { OnErr result (is_in_memory ≡ false) };
 
     /// Sets the versioning of a bucket, which has to be there. A keeper in memory has no error here.
@@ -179,6 +205,7 @@ pub trait Records {
         requires { IsTrue (has_bucket (catalogue self.old) name.now) }
         ensures ok { OnOk result (catalogue self.new ≡ changed (catalogue self.old) name.now (VersioningSet status)) }
         ensures err { OnErr result (catalogue self.new ≡ catalogue self.old) }
+        ensures stays { StaysKnown leaves_one_of self.old self.new }
         ensures memory { OnErr result (is_in_memory ≡ false) };
 
     /// Puts a version under a key of a bucket, which has to be there, by the rules of the bucket's versioning. The
@@ -200,6 +227,7 @@ pub trait Records {
         ensures ok { OnOk result (catalogue self.new
             ≡ changed (catalogue self.old) bucket.now (KeyChanged key (VersionPut number moment stored))) }
         ensures err { OnErr result (catalogue self.new ≡ catalogue self.old) }
+        ensures stays { StaysKnown leaves_one_of self.old self.new }
         ensures memory { OnErr result (is_in_memory ≡ true
             → replaced (versioning_of (catalogue self.old) bucket.now) number (versions_of (catalogue self.old) bucket.now key) ≡ None) };
 
@@ -223,6 +251,7 @@ pub trait Records {
         ensures ok { OnOk result (catalogue self.new
             ≡ changed (catalogue self.old) bucket.now (KeyChanged key (VersionPut number moment stored))) }
         ensures err { OnErr result (catalogue self.new ≡ catalogue self.old) }
+        ensures stays { StaysKnown leaves_one_of self.old self.new }
         ensures memory { OnErr result (is_in_memory ≡ true
             → replaced (versioning_of (catalogue self.old) bucket.now) number (versions_of (catalogue self.old) bucket.now key) ≡ None) };
 
@@ -244,6 +273,7 @@ pub trait Records {
         ensures ok { OnOk result (catalogue self.new
             ≡ changed (catalogue self.old) bucket.now (KeyChanged key (KeyDeleted number moment))) }
         ensures err { OnErr result (catalogue self.new ≡ catalogue self.old) }
+        ensures stays { StaysKnown leaves_one_of self.old self.new }
         ensures memory { OnErr result (is_in_memory ≡ true
             → replaced (versioning_of (catalogue self.old) bucket.now) number (versions_of (catalogue self.old) bucket.now key) ≡ None) }
         ensures held { OnErr result (is_in_memory ≡ true
@@ -263,6 +293,7 @@ pub trait Records {
             ≡ changed (catalogue self.old) bucket.now (KeyChanged key.now (VersionDropped id))) }
         ensures gone { IfOk result (λ gone. gone ≡ find (is_under id) (versions_of (catalogue self.old) bucket.now key.now)) }
         ensures err { OnErr result (catalogue self.new ≡ catalogue self.old) }
+        ensures stays { StaysKnown leaves_one_of self.old self.new }
         ensures memory { OnErr result (is_in_memory ≡ false) };
 
     /// Deletes the objects that are named, in a bucket, which has to be there, each as DeleteObject does and in their order
@@ -284,7 +315,8 @@ pub trait Records {
         requires below { AreBelow number (catalogue self.old) }
         ensures ok { OnOk result (catalogue self.new ≡ all_deleted (catalogue self.old) bucket.now number moment objects.now) }
         ensures markers { IfOk result (λ markers. markers ≡ markers_of (catalogue self.old) bucket.now number moment objects.now) }
-        ensures err { OnErr result (catalogue self.new ≡ catalogue self.old) };
+        ensures err { OnErr result (catalogue self.new ≡ catalogue self.old) }
+        ensures stays { StaysKnown leaves_one_of self.old self.new };
 
     /// Whether the upload of this id to this key is open. A keeper in memory has no error here.
     fn has_upload(
@@ -296,6 +328,7 @@ pub trait Records {
     ) -> Result<bool, NoMemory>
         ensures value { IfOk result (λ there. there ≡ is_some (upload_at (catalogue self.old) bucket.now key.now id)) }
         ensures same { catalogue self.new ≡ catalogue self.old }
+        ensures stays { StaysKnown leaves_one_of self.old self.new }
         ensures memory { OnErr result (is_in_memory ≡ false) };
 
     /// The rows of the open uploads of a bucket from a place on, and at most so many. They stand by key in the order of
@@ -312,6 +345,7 @@ pub trait Records {
     ) -> Result<Vec<UploadRow>, NoMemory>
         ensures value { IfOk result (λ rows. rows.items ≡ take most (uploads_from (catalogue self.old) bucket.now start.now)) }
         ensures same { catalogue self.new ≡ catalogue self.old }
+        ensures stays { StaysKnown leaves_one_of self.old self.new }
         ensures memory { OnErr result (
             is_in_memory ≡ true → take most (uploads_from (catalogue self.old) bucket.now start.now) ≢ []) };
 
@@ -332,6 +366,7 @@ pub trait Records {
         ensures value { IfOk result (λ rows. rows.items
             ≡ take most (rows_behind last (parts_at (catalogue self.old) bucket.now key.now id))) }
         ensures same { catalogue self.new ≡ catalogue self.old }
+        ensures stays { StaysKnown leaves_one_of self.old self.new }
         ensures memory { OnErr result (is_in_memory ≡ true
             → take most (rows_behind last (parts_at (catalogue self.old) bucket.now key.now id)) ≢ []) };
 
@@ -350,6 +385,7 @@ pub trait Records {
         ensures value { IfOk result (λ stored. stored
             ≡ completed_at least listed.now (upload_at (catalogue self.old) bucket.now key.now id)) }
         ensures same { catalogue self.new ≡ catalogue self.old }
+        ensures stays { StaysKnown leaves_one_of self.old self.new }
         ensures memory { OnErr result (is_in_memory ≡ true
             → IsOk (completed_at least listed.now (upload_at (catalogue self.old) bucket.now key.now id))) };
 
@@ -365,7 +401,8 @@ pub trait Records {
         requires there { IsTrue (has_bucket (catalogue self.old) bucket.now) }
         requires begins { upload.parts ≡ [] }
         ensures ok { OnOk result (catalogue self.new ≡ changed (catalogue self.old) bucket.now (UploadAdded key id upload)) }
-        ensures err { OnErr result (catalogue self.new ≡ catalogue self.old) };
+        ensures err { OnErr result (catalogue self.new ≡ catalogue self.old) }
+        ensures stays { StaysKnown leaves_one_of self.old self.new };
 
     /// Puts a part under its number to an upload, which has to be open. The part that it replaces is answered; `None`
     /// where there was none. A keeper in memory has an error only where it replaces none.
@@ -384,6 +421,7 @@ pub trait Records {
             ≡ changed (catalogue self.old) bucket.now (PartPut key.now id number part)) }
         ensures former { IfOk result (λ former. former ≡ part_at number (parts_at (catalogue self.old) bucket.now key.now id)) }
         ensures err { OnErr result (catalogue self.new ≡ catalogue self.old) }
+        ensures stays { StaysKnown leaves_one_of self.old self.new }
         ensures memory { OnErr result (is_in_memory ≡ true
             → part_at number (parts_at (catalogue self.old) bucket.now key.now id) ≡ None) };
 
@@ -400,6 +438,7 @@ pub trait Records {
         ensures ok { OnOk result (catalogue self.new ≡ changed (catalogue self.old) bucket.now (UploadDropped key.now id)) }
         ensures gone { IfOk result (λ gone. gone ≡ upload_at (catalogue self.old) bucket.now key.now id) }
         ensures err { OnErr result (catalogue self.new ≡ catalogue self.old) }
+        ensures stays { StaysKnown leaves_one_of self.old self.new }
         ensures memory { OnErr result (is_in_memory ≡ false) };
 
     /// Completes an upload, which has to be open: puts a version under its key, as `put_version` does, and drops the upload,
@@ -423,6 +462,7 @@ pub trait Records {
             ≡ changed (catalogue self.old) bucket.now (UploadCompleted key id (VersionPut number moment stored))) }
         ensures gone { IfOk result (λ gone. gone ≡ upload_at (catalogue self.old) bucket.now key id) }
         ensures err { OnErr result (catalogue self.new ≡ catalogue self.old) }
+        ensures stays { StaysKnown leaves_one_of self.old self.new }
         ensures memory { OnErr result (is_in_memory ≡ true
             → replaced (versioning_of (catalogue self.old) bucket.now) number (versions_of (catalogue self.old) bucket.now key) ≡ None) };
 }

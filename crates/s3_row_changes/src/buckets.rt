@@ -3,6 +3,7 @@ ghost use Rattle.std.specs.Prelude.{◌≡◌, Some, OnOk, OnErr, option_map};
 ghost use Rattle.s3_rows.specs.Soundness.{AreSound, bucket_row};
 ghost use Rattle.s3_rows.specs.TableChanges.{bucket_dropped, bucket_replaced};
 ghost use Rattle.s3_stored_rows.specs.Changes.{bucket_columns};
+ghost use Rattle.s3_stored_rows.specs.Leaving.{LeavesNoMore};
 ghost use Rattle.s3_stored_rows.specs.Queries.{bucket_named};
 
 use crate::dropping::replacing;
@@ -16,6 +17,7 @@ pub fn drop_bucket<R: StoredRows>(rows: &mut R, name: &[u8], gone: i64) -> Resul
     requires gone { option_map bucket_row (bucket_named name.now (R.tables rows.old)) ≡ Some gone }
     ensures ok { OnOk result (R.tables rows.new ≡ bucket_dropped name.now (R.tables rows.old)) }
     ensures err { OnErr result (R.tables rows.new ≡ R.tables rows.old) }
+    ensures stays { LeavesNoMore R.leaves rows.old rows.new }
 {
     rows.apply(&[Change::DropRow(TableName::Buckets, gone)])
 }
@@ -31,6 +33,7 @@ pub fn replace_bucket<R: StoredRows>(
     requires gone { option_map bucket_row (bucket_named bucket.name.items (R.tables rows.old)) ≡ Some gone }
     ensures ok { OnOk result (R.tables rows.new ≡ bucket_replaced (bucket_columns bucket) (R.tables rows.old)) }
     ensures err { OnErr result (R.tables rows.new ≡ R.tables rows.old) }
+    ensures stays { LeavesNoMore R.leaves rows.old rows.new }
 {
     let changes = replacing(
         alloc,

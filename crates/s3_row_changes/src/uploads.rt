@@ -4,6 +4,7 @@ ghost use Rattle.std.specs.Option.{option_copied};
 ghost use Rattle.s3_rows.specs.Soundness.{AreSound, version_row};
 ghost use Rattle.s3_rows.specs.TableChanges.{version_put, upload_put, upload_dropped};
 ghost use Rattle.s3_stored_rows.specs.Changes.{version_columns, upload_columns};
+ghost use Rattle.s3_stored_rows.specs.Leaving.{LeavesNoMore};
 ghost use Rattle.s3_stored_rows.specs.Queries.{version_of_id, upload_of_id};
 ghost use Rattle.s3_row_changes.specs.Uploads.{AreRowsOf};
 
@@ -34,6 +35,7 @@ pub fn upload_rows<R: StoredRows>(
     ensures found { IfOk result (λ found. option_map (λ (u : UploadRows). upload_columns u.upload) found ≡ upload_of_id bucket.now key.now id (R.tables rows.old)) }
     ensures rows { IfOk result (λ found. IfSome found (AreRowsOf (R.tables rows.old))) }
     ensures same { R.tables rows.new ≡ R.tables rows.old }
+    ensures stays { LeavesNoMore R.leaves rows.old rows.new }
 {
     let Some(upload) = rows.upload(bucket, key, id)? else {
         return Ok(None);
@@ -54,6 +56,7 @@ pub fn put_upload<R: StoredRows>(
     requires rows { IfSome (option_copied gone) (AreRowsOf (R.tables rows.old)) }
     ensures ok { OnOk result (R.tables rows.new ≡ upload_put (upload_columns upload) (R.tables rows.old)) }
     ensures err { OnErr result (R.tables rows.new ≡ R.tables rows.old) }
+    ensures stays { LeavesNoMore R.leaves rows.old rows.new }
 {
     let mut changes = any_upload_drops(alloc, gone)?;
     changes.push(Change::AddUpload(upload))?;
@@ -70,6 +73,7 @@ pub fn drop_upload<R: StoredRows>(
     requires rows { AreRowsOf (R.tables rows.old) gone.now }
     ensures ok { OnOk result (R.tables rows.new ≡ upload_dropped gone.now.upload.bucket.items gone.now.upload.key.items gone.now.upload.id (R.tables rows.old)) }
     ensures err { OnErr result (R.tables rows.new ≡ R.tables rows.old) }
+    ensures stays { LeavesNoMore R.leaves rows.old rows.new }
 {
     let changes = upload_drops(alloc, gone)?;
     rows.apply(changes.as_slice())
@@ -90,6 +94,7 @@ pub fn complete<R: StoredRows>(
     ensures ok { OnOk result (R.tables rows.new
         ≡ upload_dropped upload.now.upload.bucket.items upload.now.upload.key.items upload.now.upload.id (version_put (version_columns version) (R.tables rows.old))) }
     ensures err { OnErr result (R.tables rows.new ≡ R.tables rows.old) }
+    ensures stays { LeavesNoMore R.leaves rows.old rows.new }
 {
     let mut changes = upload_drops(alloc, upload)?;
     push_replacing(

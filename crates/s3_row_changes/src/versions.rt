@@ -3,6 +3,7 @@ ghost use Rattle.std.specs.Prelude.{◌≡◌, Some, OnOk, OnErr, option_map};
 ghost use Rattle.s3_rows.specs.Soundness.{AreSound, version_row};
 ghost use Rattle.s3_rows.specs.TableChanges.{version_put, version_dropped};
 ghost use Rattle.s3_stored_rows.specs.Changes.{version_columns};
+ghost use Rattle.s3_stored_rows.specs.Leaving.{LeavesNoMore};
 ghost use Rattle.s3_stored_rows.specs.Queries.{version_of_id};
 
 use crate::dropping::replacing;
@@ -21,6 +22,7 @@ pub fn put_version<R: StoredRows>(
     requires gone { option_map version_row (version_of_id version.bucket.items version.key.items version.id (R.tables rows.old)) ≡ gone }
     ensures ok { OnOk result (R.tables rows.new ≡ version_put (version_columns version) (R.tables rows.old)) }
     ensures err { OnErr result (R.tables rows.new ≡ R.tables rows.old) }
+    ensures stays { LeavesNoMore R.leaves rows.old rows.new }
 {
     let changes = replacing(
         alloc,
@@ -43,6 +45,7 @@ pub fn drop_version<R: StoredRows>(
     requires gone { option_map version_row (version_of_id bucket.now key.now id (R.tables rows.old)) ≡ Some gone }
     ensures ok { OnOk result (R.tables rows.new ≡ version_dropped bucket.now key.now id (R.tables rows.old)) }
     ensures err { OnErr result (R.tables rows.new ≡ R.tables rows.old) }
+    ensures stays { LeavesNoMore R.leaves rows.old rows.new }
 {
     rows.apply(&[Change::DropRow(TableName::Versions, gone)])
 }

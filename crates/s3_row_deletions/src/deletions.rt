@@ -8,6 +8,7 @@ ghost use Rattle.s3_rows.specs.Meaning.{catalogue_of};
 ghost use Rattle.s3_rows.specs.Soundness.{AreSound, has_bucket_row};
 ghost use Rattle.s3_stored_bodies.specs.Numbers.{Contents};
 ghost use Rattle.s3_stored_rows.specs.Bodies.{encoding};
+ghost use Rattle.s3_stored_rows.specs.Leaving.{LeavesNoMore};
 ghost use Rattle.s3_stored_rows.specs.Rowids.{AreRowsBelow};
 ghost use Rattle.s3_row_deletions.specs.Deletions.{AreDeletions};
 ghost use Rattle.s3_row_deletions.specs.Steps.{AreReady, AreSteps, IsAdded, rows_gone, rows_come, numbers_gone, next_after};
@@ -56,6 +57,7 @@ pub fn plan_deletions<R: StoredRows>(
     requires below { (contents : Contents) → AreBelow number (catalogue_of (encoding contents) (R.tables rows.old)) }
     ensures value { IfOk result (AreDeletions (R.tables rows.old) bucket.now number moment objects.now) }
     ensures same { R.tables rows.new ≡ R.tables rows.old }
+    ensures stays { LeavesNoMore R.leaves rows.old rows.new }
 {
     let versioning = versioning_of(rows, bucket)?;
     let entry = Entry {
@@ -71,6 +73,7 @@ fn versioning_of<R: StoredRows>(rows: &mut R, bucket: &BucketName) -> Result<Ver
     ensures value { IfOk result (λ versioning. (contents : Contents)
         → versioning_of (catalogue_of (encoding contents) (R.tables rows.old)) bucket.now ≡ versioning) }
     ensures same { R.tables rows.new ≡ R.tables rows.old }
+    ensures stays { LeavesNoMore R.leaves rows.old rows.new }
 {
     match rows.bucket(bucket.as_bytes())? {
         None => Ok(Versioning::Unversioned),
@@ -100,6 +103,7 @@ fn delete_each<R: StoredRows>(
     requires { AreReady (R.tables rows.old) bucket.now entry.now next }
     ensures value { IfOk result (AreSteps (R.tables rows.old) bucket.now entry.now objects.now) }
     ensures same { R.tables rows.new ≡ R.tables rows.old }
+    ensures stays { LeavesNoMore R.leaves rows.old rows.new }
 {
     let mut all = Deletions {
         changes: Vec::new(alloc),
@@ -126,6 +130,7 @@ impl Deletions {
         ensures ok { OnOk result ((objects : List NamedObject) → AreSteps (R.tables rows.old) bucket.now entry.now objects self.old
             → AreSteps (R.tables rows.old) bucket.now entry.now (objects ++ object.now ∷ []) self.new) }
         ensures same { R.tables rows.new ≡ R.tables rows.old }
+        ensures stays { LeavesNoMore R.leaves rows.old rows.new }
     {
         let step = object_step(
             rows,

@@ -3,6 +3,7 @@ ghost use Rattle.std.specs.Prelude.{◌≡◌, option_map, IfOk};
 ghost use Rattle.std.specs.Option.{option_copied};
 ghost use Rattle.s3_rows.specs.Finding.{same_text, has_id, is_version};
 ghost use Rattle.s3_stored_rows.specs.Changes.{version_columns};
+ghost use Rattle.s3_stored_rows.specs.Leaving.{LeavesNoMore};
 ghost use Rattle.s3_stored_rows.specs.Queries.{version_of_id};
 ghost use Rattle.s3_row_deletions.specs.Standing.{shown, row_shown, unless_row, found_next, found_after};
 
@@ -33,6 +34,7 @@ pub(crate) fn standing_at<R: StoredRows>(
     ensures value { IfOk result (λ found. option_map shown found
         ≡ option_map row_shown (found_after bucket.now key.now id changes.now (version_of_id bucket.now key.now id (R.tables rows.old)))) }
     ensures same { R.tables rows.new ≡ R.tables rows.old }
+    ensures stays { LeavesNoMore R.leaves rows.old rows.new }
 {
     let before = rows.version(bucket, key, id)?;
     shown_of(

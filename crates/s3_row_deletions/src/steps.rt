@@ -4,6 +4,7 @@ ghost use Rattle.std.specs.Option.{option_copied};
 ghost use Rattle.s3_deletions.specs.declared.named.NamedObject.{NamedObject};
 ghost use Rattle.s3_rows.specs.Columns.{Tables};
 ghost use Rattle.s3_rows.specs.Finding.{id_column};
+ghost use Rattle.s3_stored_rows.specs.Leaving.{LeavesNoMore};
 ghost use Rattle.s3_stored_rows.specs.Queries.{version_of_id};
 ghost use Rattle.s3_versions.specs.Rules.{new_id};
 ghost use Rattle.s3_row_deletions.specs.Standing.{shown, row_shown};
@@ -48,6 +49,7 @@ pub(crate) fn object_step<R: StoredRows>(
 ) -> Result<Step, NoMemory>
     ensures value { IfOk result (IsStepAfter (R.tables rows.old) changes.now bucket.now entry.now next object.now) }
     ensures same { R.tables rows.new ≡ R.tables rows.old }
+    ensures stays { LeavesNoMore R.leaves rows.old rows.new }
 {
     match object {
         NamedObject::Fault(_) => Ok(nothing()),
@@ -71,6 +73,7 @@ fn key_step<R: StoredRows>(
     ensures value { IfOk result (IsStepAfter (R.tables rows.old) changes.now bucket.now entry.now next
         (NamedObject.Object (record { key = key.now; version = None }))) }
     ensures same { R.tables rows.new ≡ R.tables rows.old }
+    ensures stays { LeavesNoMore R.leaves rows.old rows.new }
 {
     let Some(column) = write_id(entry.versioning.new_id(entry.number)) else {
         return Err(NoMemory);
@@ -153,6 +156,7 @@ fn version_step<R: StoredRows>(
     ensures value { IfOk result (IsStepAfter (R.tables rows.old) changes.now bucket.now entry.now next
         (NamedObject.Object (record { key = key.now; version = Some id }))) }
     ensures same { R.tables rows.new ≡ R.tables rows.old }
+    ensures stays { LeavesNoMore R.leaves rows.old rows.new }
 {
     if !is_older(entry.number, id) {
         return Ok(nothing());

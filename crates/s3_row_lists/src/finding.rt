@@ -6,6 +6,7 @@ ghost use Rattle.s3_rows.specs.Finding.{is_in, is_upload_in};
 ghost use Rattle.s3_rows.specs.ListLaws.{by_key_and_id};
 ghost use Rattle.s3_rows.specs.VersionListLaws.{by_key_and_number};
 ghost use Rattle.s3_stored_rows.specs.Changes.{upload_columns, version_columns};
+ghost use Rattle.s3_stored_rows.specs.Leaving.{LeavesNoMore};
 
 use s3_records::Start;
 use s3_stored_rows::{StoredRows, StoredUpload, StoredVersion};
@@ -23,6 +24,7 @@ pub(crate) fn uploads_found<R: StoredRows>(
     ensures value { IfOk result (λ all. map upload_columns all.items
         ≡ take limit (sort_by by_key_and_id (filter (λ u. is_upload_in bucket.now u && is_from start.now u.key) (R.tables rows.old).uploads))) }
     ensures same { R.tables rows.new ≡ R.tables rows.old }
+    ensures stays { LeavesNoMore R.leaves rows.old rows.new }
 {
     match start {
         Start::First => rows.uploads_from(alloc, bucket, &[], limit),
@@ -42,6 +44,7 @@ pub(crate) fn versions_found<R: StoredRows>(
     ensures value { IfOk result (λ all. map version_columns all.items
         ≡ take limit (sort_by by_key_and_number (filter (λ v. is_in bucket.now v && is_from start.now v.key) (R.tables rows.old).versions))) }
     ensures same { R.tables rows.new ≡ R.tables rows.old }
+    ensures stays { LeavesNoMore R.leaves rows.old rows.new }
 {
     match start {
         Start::First => rows.versions_from(alloc, bucket, &[], limit),

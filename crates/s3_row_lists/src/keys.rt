@@ -9,6 +9,7 @@ ghost use Rattle.s3_rows.specs.VersionListLaws.{is_last};
 ghost use Rattle.s3_stored_bodies.specs.Numbers.{Contents};
 ghost use Rattle.s3_stored_rows.specs.Bodies.{encoding};
 ghost use Rattle.s3_stored_rows.specs.Changes.{version_columns};
+ghost use Rattle.s3_stored_rows.specs.Leaving.{LeavesNoMore};
 ghost use Rattle.s3_stored_rows.specs.Queries as asked;
 ghost use Rattle.s3_stored_rows.specs.declared.rows.StoredVersion.{StoredVersion};
 
@@ -38,6 +39,7 @@ pub fn keys_from<R: StoredRows>(
     ensures value { (contents : Contents) → IfOk result (λ told. told.items
         ≡ take most (keys_from (catalogue_of (encoding contents) (R.tables rows.old)) bucket.now start.now)) }
     ensures same { R.tables rows.new ≡ R.tables rows.old }
+    ensures stays { LeavesNoMore R.leaves rows.old rows.new }
 {
     let bucket = bucket.as_bytes();
     let mut told = Vec::new(alloc);
@@ -64,6 +66,7 @@ fn add_behind<R: StoredRows>(
     ensures value { (contents : Contents) → OnOk result (told.new.items
         ≡ take most (told.old.items ++ keys_listed (encoding contents) None (asked.versions_behind bucket.now key.items (R.tables rows.old)))) }
     ensures same { R.tables rows.new ≡ R.tables rows.old }
+    ensures stays { LeavesNoMore R.leaves rows.old rows.new }
 {
     let mut last = key;
     while told.len() < most {

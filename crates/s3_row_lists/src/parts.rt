@@ -11,6 +11,7 @@ ghost use Rattle.s3_rows.specs.Soundness.{AreSound};
 ghost use Rattle.s3_stored_bodies.specs.Numbers.{Contents};
 ghost use Rattle.s3_stored_rows.specs.Bodies.{encoding};
 ghost use Rattle.s3_stored_rows.specs.Changes.{part_columns};
+ghost use Rattle.s3_stored_rows.specs.Leaving.{LeavesNoMore};
 
 use crate::numbers::{column_of, limit_of};
 use s3_names::{BucketName, Key, UploadId};
@@ -34,6 +35,7 @@ pub fn parts_from<R: StoredRows>(
     ensures value { (contents : Contents) → IfOk result (λ told. told.items
         ≡ take most (rows_behind last (parts_at (catalogue_of (encoding contents) (R.tables rows.old)) bucket.now key.now id))) }
     ensures same { R.tables rows.new ≡ R.tables rows.old }
+    ensures stays { LeavesNoMore R.leaves rows.old rows.new }
 {
     match row_of_upload(rows, alloc, bucket.as_bytes(), key.as_bytes(), id.number())? {
         None => Ok(Vec::new(alloc)),
@@ -52,6 +54,7 @@ fn row_of_upload<R: StoredRows>(
     ensures value { IfOk result (λ row. row
         ≡ option_map (λ (u : UploadColumns). u.row) (find (is_upload bucket.now key.now (pos id)) (R.tables rows.old).uploads)) }
     ensures same { R.tables rows.new ≡ R.tables rows.old }
+    ensures stays { LeavesNoMore R.leaves rows.old rows.new }
 {
     match column_of(id) {
         Some(column) => stored_row(rows, bucket, key, column),
@@ -69,6 +72,7 @@ fn stored_row<R: StoredRows>(
     ensures value { IfOk result (λ row. row
         ≡ option_map (λ (u : UploadColumns). u.row) (find (is_upload bucket.now key.now column) (R.tables rows.old).uploads)) }
     ensures same { R.tables rows.new ≡ R.tables rows.old }
+    ensures stays { LeavesNoMore R.leaves rows.old rows.new }
 {
     match rows.upload(bucket, key, column)? {
         None => Ok(None),
@@ -88,6 +92,7 @@ fn large_row<R: StoredRows>(
     ensures value { IfOk result (λ row. row
         ≡ option_map (λ (u : UploadColumns). u.row) (find (is_upload bucket.now key.now (pos id)) (R.tables rows.old).uploads)) }
     ensures same { R.tables rows.new ≡ R.tables rows.old }
+    ensures stays { LeavesNoMore R.leaves rows.old rows.new }
 {
     let found = rows.uploads_above(alloc, bucket, key, i64::MAX, 1)?;
     if found.is_empty() {
@@ -109,6 +114,7 @@ fn parts_above<R: StoredRows>(
     ensures value { (contents : Contents) → IfOk result (λ told. told.items
         ≡ take most (map (part_told (encoding contents)) (sort_by by_part (filter (λ p. is_sent_to upload p && is_part_above last p) (R.tables rows.old).parts)))) }
     ensures same { R.tables rows.new ≡ R.tables rows.old }
+    ensures stays { LeavesNoMore R.leaves rows.old rows.new }
 {
     let Some(number) = column_of(last) else {
         return Ok(Vec::new(alloc));

@@ -10,6 +10,7 @@ ghost use Rattle.s3_rows.specs.Soundness.{AreSound};
 ghost use Rattle.s3_stored_bodies.specs.Numbers.{Contents};
 ghost use Rattle.s3_stored_rows.specs.Bodies.{encoding};
 ghost use Rattle.s3_stored_rows.specs.Changes.{upload_columns};
+ghost use Rattle.s3_stored_rows.specs.Leaving.{LeavesNoMore};
 ghost use Rattle.s3_stored_rows.specs.Queries as asked;
 
 use crate::finding::uploads_found;
@@ -33,6 +34,7 @@ pub fn uploads_from<R: StoredRows>(
     ensures value { (contents : Contents) → IfOk result (λ told. told.items
         ≡ take most (uploads_from (catalogue_of (encoding contents) (R.tables rows.old)) bucket.now start.now)) }
     ensures same { R.tables rows.new ≡ R.tables rows.old }
+    ensures stays { LeavesNoMore R.leaves rows.old rows.new }
 {
     match start {
         UploadStart::At(start) => uploads_at(rows, alloc, bucket.as_bytes(), start, most),
@@ -54,6 +56,7 @@ fn uploads_at<R: StoredRows>(
     ensures value { IfOk result (λ told. told.items
         ≡ take most (map upload_listed (sort_by by_key_and_id (filter (λ u. is_upload_in bucket.now u && is_from start.now u.key) (R.tables rows.old).uploads)))) }
     ensures same { R.tables rows.new ≡ R.tables rows.old }
+    ensures stays { LeavesNoMore R.leaves rows.old rows.new }
 {
     let limit = limit_of(most)?;
     let found = uploads_found(rows, alloc, bucket, start, limit)?;
@@ -72,6 +75,7 @@ fn uploads_past<R: StoredRows>(
     ensures value { IfOk result (λ told. told.items
         ≡ take most (map upload_listed (asked.uploads_above bucket.now key.now (pos id) (R.tables rows.old) ++ asked.uploads_behind bucket.now key.now (R.tables rows.old)))) }
     ensures same { R.tables rows.new ≡ R.tables rows.old }
+    ensures stays { LeavesNoMore R.leaves rows.old rows.new }
 {
     let mut told = above_told(rows, alloc, bucket, key, id, most)?;
     add_behind(rows, alloc, &mut told, bucket, key, most)?;
@@ -90,6 +94,7 @@ fn above_told<R: StoredRows>(
     ensures value { IfOk result (λ told. told.items
         ≡ take most (map upload_listed (asked.uploads_above bucket.now key.now (pos id) (R.tables rows.old)))) }
     ensures same { R.tables rows.new ≡ R.tables rows.old }
+    ensures stays { LeavesNoMore R.leaves rows.old rows.new }
 {
     let limit = limit_of(most)?;
     let found = found_above(rows, alloc, bucket, key, id, limit)?;
@@ -109,6 +114,7 @@ fn found_above<R: StoredRows>(
     ensures value { IfOk result (λ all. map upload_columns all.items
         ≡ take limit (asked.uploads_above bucket.now key.now (pos id) (R.tables rows.old))) }
     ensures same { R.tables rows.new ≡ R.tables rows.old }
+    ensures stays { LeavesNoMore R.leaves rows.old rows.new }
 {
     match column_of(id) {
         Some(number) => rows.uploads_above(alloc, bucket, key, number, limit),
@@ -135,6 +141,7 @@ fn add_behind<R: StoredRows>(
     ensures value { OnOk result (told.new.items
         ≡ told.old.items ++ take (most - length told.old.items) (map upload_listed (asked.uploads_behind bucket.now key.now (R.tables rows.old)))) }
     ensures same { R.tables rows.new ≡ R.tables rows.old }
+    ensures stays { LeavesNoMore R.leaves rows.old rows.new }
 {
     let limit = limit_of(most.saturating_sub(told.len()))?;
     let found = rows.uploads_behind(alloc, bucket, key, limit)?;

@@ -11,6 +11,7 @@ ghost use Rattle.s3_rows.specs.VersionListLaws.{by_key_and_number, versions_list
 ghost use Rattle.s3_stored_bodies.specs.Numbers.{Contents};
 ghost use Rattle.s3_stored_rows.specs.Bodies.{encoding};
 ghost use Rattle.s3_stored_rows.specs.Changes.{version_columns};
+ghost use Rattle.s3_stored_rows.specs.Leaving.{LeavesNoMore};
 ghost use Rattle.s3_stored_rows.specs.Queries as asked;
 
 use crate::finding::versions_found;
@@ -35,6 +36,7 @@ pub fn versions_from<R: StoredRows>(
     ensures value { (contents : Contents) → IfOk result (λ told. told.items
         ≡ take most (versions_from (catalogue_of (encoding contents) (R.tables rows.old)) bucket.now start.now)) }
     ensures same { R.tables rows.new ≡ R.tables rows.old }
+    ensures stays { LeavesNoMore R.leaves rows.old rows.new }
 {
     match start {
         VersionStart::At(start) => versions_at(rows, alloc, bucket.as_bytes(), start, most),
@@ -56,6 +58,7 @@ fn versions_at<R: StoredRows>(
     ensures value { (contents : Contents) → IfOk result (λ told. told.items
         ≡ take most (versions_listed (encoding contents) None (sort_by by_key_and_number (filter (λ v. is_in bucket.now v && is_from start.now v.key) (R.tables rows.old).versions)))) }
     ensures same { R.tables rows.new ≡ R.tables rows.old }
+    ensures stays { LeavesNoMore R.leaves rows.old rows.new }
 {
     let limit = limit_of(most)?;
     let found = versions_found(rows, alloc, bucket, start, limit)?;
@@ -78,6 +81,7 @@ fn versions_past<R: StoredRows>(
         ≡ take most (map (version_row key.now false) (behind_version id (versions_of (catalogue_of (encoding contents) (R.tables rows.old)) bucket.now key.now))
         ++ versions_listed (encoding contents) None (asked.versions_behind bucket.now key.now (R.tables rows.old)))) }
     ensures same { R.tables rows.new ≡ R.tables rows.old }
+    ensures stays { LeavesNoMore R.leaves rows.old rows.new }
 {
     let mut told = older_found(rows, alloc, bucket, key, id, most)?;
     add_behind(rows, alloc, &mut told, bucket, key, most)?;
@@ -97,6 +101,7 @@ fn older_found<R: StoredRows>(
     ensures value { (contents : Contents) → IfOk result (λ told. told.items
         ≡ take most (map (version_row key.now false) (behind_version id (versions_of (catalogue_of (encoding contents) (R.tables rows.old)) bucket.now key.now)))) }
     ensures same { R.tables rows.new ≡ R.tables rows.old }
+    ensures stays { LeavesNoMore R.leaves rows.old rows.new }
 {
     match number_of(rows, bucket, key, id)? {
         None => Ok(Vec::new(alloc)),
@@ -115,6 +120,7 @@ fn number_of<R: StoredRows>(
     ensures value { IfOk result (λ number. number
         ≡ option_map (λ (v : VersionColumns). v.number) (find (is_version bucket.now key.now (id_column id)) (R.tables rows.old).versions)) }
     ensures same { R.tables rows.new ≡ R.tables rows.old }
+    ensures stays { LeavesNoMore R.leaves rows.old rows.new }
 {
     match id {
         VersionId::Null => stored_number(rows, bucket, key, -1),
@@ -135,6 +141,7 @@ fn stored_number<R: StoredRows>(
     ensures value { IfOk result (λ number. number
         ≡ option_map (λ (v : VersionColumns). v.number) (find (is_version bucket.now key.now column) (R.tables rows.old).versions)) }
     ensures same { R.tables rows.new ≡ R.tables rows.old }
+    ensures stays { LeavesNoMore R.leaves rows.old rows.new }
 {
     match rows.version(bucket, key, column)? {
         None => Ok(None),
@@ -153,6 +160,7 @@ fn large_number<R: StoredRows>(
     ensures value { IfOk result (λ number. number
         ≡ option_map (λ (v : VersionColumns). v.number) (find (is_version bucket.now key.now (pos id)) (R.tables rows.old).versions)) }
     ensures same { R.tables rows.new ≡ R.tables rows.old }
+    ensures stays { LeavesNoMore R.leaves rows.old rows.new }
 {
     match newest_number(rows, bucket, key)? {
         None => Ok(None),
@@ -175,6 +183,7 @@ fn newest_number<R: StoredRows>(
     ensures value { IfOk result (λ number. number
         ≡ option_map (λ (v : VersionColumns). v.number) (asked.newest_version bucket.now key.now (R.tables rows.old))) }
     ensures same { R.tables rows.new ≡ R.tables rows.old }
+    ensures stays { LeavesNoMore R.leaves rows.old rows.new }
 {
     match rows.newest(bucket, key)? {
         None => Ok(None),
@@ -194,6 +203,7 @@ fn below_told<R: StoredRows>(
     ensures value { (contents : Contents) → IfOk result (λ told. told.items
         ≡ take most (map (λ (v : VersionColumns). version_row v.key false (version_of (encoding contents) v)) (asked.versions_below bucket.now key.now number (R.tables rows.old)))) }
     ensures same { R.tables rows.new ≡ R.tables rows.old }
+    ensures stays { LeavesNoMore R.leaves rows.old rows.new }
 {
     let limit = limit_of(most)?;
     let found = rows.versions_below(alloc, bucket, key, number, limit)?;
@@ -212,6 +222,7 @@ fn add_behind<R: StoredRows>(
     ensures value { (contents : Contents) → OnOk result (told.new.items
         ≡ told.old.items ++ take (most - length told.old.items) (versions_listed (encoding contents) None (asked.versions_behind bucket.now key.now (R.tables rows.old)))) }
     ensures same { R.tables rows.new ≡ R.tables rows.old }
+    ensures stays { LeavesNoMore R.leaves rows.old rows.new }
 {
     let limit = limit_of(most.saturating_sub(told.len()))?;
     let found = rows.versions_behind(alloc, bucket, key, limit)?;

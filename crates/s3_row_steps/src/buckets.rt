@@ -8,6 +8,7 @@ ghost use Rattle.s3_rows.specs.Soundness.{has_bucket_row};
 ghost use Rattle.s3_stored_bodies.specs.Numbers.{Contents};
 ghost use Rattle.s3_stored_rows.specs.Bodies.{encoding};
 ghost use Rattle.s3_stored_rows.specs.Changes.{bucket_columns};
+ghost use Rattle.s3_stored_rows.specs.Leaving.{LeavesNoMore};
 ghost use Rattle.s3_versions.specs.Rules.{versioning_set};
 ghost use Rattle.s3_row_steps.specs.Steps.{AreKept, Steps};
 
@@ -33,6 +34,7 @@ pub fn add_bucket<R: StoredRows>(
     requires new { has_bucket_row (R.tables rows.old).buckets name.now ≡ false }
     ensures ok { OnOk result (Steps (R.tables rows.old) (R.tables rows.new) (next +ℤ pos 1) name.now (λ _. BucketAdded moment) [] []) }
     ensures err { OnErr result (R.tables rows.new ≡ R.tables rows.old) }
+    ensures stays { LeavesNoMore R.leaves rows.old rows.new }
 {
     let row = bucket_row(alloc, next, name, moment, Versioning::Unversioned)?;
     rows.apply(&[Change::AddBucket(row)])
@@ -49,6 +51,7 @@ pub fn drop_bucket<R: StoredRows>(
     requires empty { (contents : Contents) → IsTrue (is_empty_bucket (catalogue_of (encoding contents) (R.tables rows.old)) name.now) }
     ensures ok { OnOk result (Steps (R.tables rows.old) (R.tables rows.new) next name.now (λ _. BucketDropped) [] []) }
     ensures err { OnErr result (R.tables rows.new ≡ R.tables rows.old) }
+    ensures stays { LeavesNoMore R.leaves rows.old rows.new }
 {
     let bytes = name.as_bytes();
     let Some(row) = rows.bucket(bytes)? else {
@@ -69,6 +72,7 @@ pub fn set_versioning<R: StoredRows>(
     requires there { IsTrue (has_bucket_row (R.tables rows.old).buckets name.now) }
     ensures ok { OnOk result (Steps (R.tables rows.old) (R.tables rows.new) (next +ℤ pos 1) name.now (λ _. VersioningSet status) [] []) }
     ensures err { OnErr result (R.tables rows.new ≡ R.tables rows.old) }
+    ensures stays { LeavesNoMore R.leaves rows.old rows.new }
 {
     let Some(old) = rows.bucket(name.as_bytes())? else {
         return Err(NoMemory);

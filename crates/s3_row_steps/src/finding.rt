@@ -9,6 +9,7 @@ ghost use Rattle.s3_rows.specs.Meaning.{version_of, catalogue_of};
 ghost use Rattle.s3_stored_bodies.specs.Numbers.{Contents};
 ghost use Rattle.s3_stored_rows.specs.Bodies.{encoding};
 ghost use Rattle.s3_stored_rows.specs.Changes.{version_columns, upload_columns};
+ghost use Rattle.s3_stored_rows.specs.Leaving.{LeavesNoMore};
 ghost use Rattle.s3_stored_rows.specs.Queries.{version_of_id, upload_of_id};
 ghost use Rattle.s3_row_changes.specs.Uploads.{AreRowsOf};
 ghost use Rattle.s3_row_steps.specs.Steps.{AreKept, HaveSmallIds};
@@ -34,6 +35,7 @@ pub fn found_version<R: StoredRows>(
         ≡ asked_for asked (versions_of (catalogue_of (encoding contents) (R.tables rows.old)) bucket.now key.now)) }
     ensures named { (id : VersionId) → asked ≡ Some id → IfOk result (λ found. option_map version_columns found ≡ version_of_id bucket.now key.now (id_column id) (R.tables rows.old)) }
     ensures same { R.tables rows.new ≡ R.tables rows.old }
+    ensures stays { LeavesNoMore R.leaves rows.old rows.new }
 {
     match asked {
         None => rows.newest(bucket.as_bytes(), key.as_bytes()),
@@ -51,6 +53,7 @@ fn version_under<R: StoredRows>(
     requires small { HaveSmallIds (R.tables rows.old) }
     ensures value { IfOk result (λ found. option_map version_columns found ≡ version_of_id bucket.now key.now (id_column id) (R.tables rows.old)) }
     ensures same { R.tables rows.new ≡ R.tables rows.old }
+    ensures stays { LeavesNoMore R.leaves rows.old rows.new }
 {
     match write_id(id) {
         None => Ok(None),
@@ -70,6 +73,7 @@ pub fn found_upload<R: StoredRows>(
     ensures found { IfOk result (λ found. option_map (λ (u : UploadRows). upload_columns u.upload) found ≡ upload_of_id bucket.now key.now (pos id) (R.tables rows.old)) }
     ensures rows { IfOk result (λ found. IfSome found (AreRowsOf (R.tables rows.old))) }
     ensures same { R.tables rows.new ≡ R.tables rows.old }
+    ensures stays { LeavesNoMore R.leaves rows.old rows.new }
 {
     match upload_column(id) {
         None => Ok(None),
@@ -87,6 +91,7 @@ pub fn found_upload_row<R: StoredRows>(
     requires kept { (next : ℤ) × AreKept next (R.tables rows.old) }
     ensures value { IfOk result (λ found. option_map upload_columns found ≡ upload_of_id bucket.now key.now (pos id) (R.tables rows.old)) }
     ensures same { R.tables rows.new ≡ R.tables rows.old }
+    ensures stays { LeavesNoMore R.leaves rows.old rows.new }
 {
     match upload_column(id) {
         None => Ok(None),
@@ -109,6 +114,7 @@ pub(crate) fn versioning_of<R: StoredRows>(
     ensures value { IfOk result (λ versioning. (contents : Contents)
         → versioning_of (catalogue_of (encoding contents) (R.tables rows.old)) bucket.now ≡ versioning) }
     ensures same { R.tables rows.new ≡ R.tables rows.old }
+    ensures stays { LeavesNoMore R.leaves rows.old rows.new }
 {
     match rows.bucket(bucket.as_bytes())? {
         None => Err(NoMemory),

@@ -5,6 +5,7 @@ ghost use Rattle.s3_records.specs.Changes.{PartPut};
 ghost use Rattle.s3_rows.specs.Soundness.{part_row};
 ghost use Rattle.s3_stored_rows.specs.Bodies.{part_numbers};
 ghost use Rattle.s3_stored_rows.specs.Changes.{upload_columns, part_columns};
+ghost use Rattle.s3_stored_rows.specs.Leaving.{LeavesNoMore};
 ghost use Rattle.s3_stored_rows.specs.Queries.{upload_of_id, part_of_number};
 ghost use Rattle.s3_row_values.specs.Values.{part_with};
 ghost use Rattle.s3_row_changes.specs.Trading.{numbers_of};
@@ -38,6 +39,7 @@ pub fn put_part<R: StoredRows>(
         (λ contents. PartPut key.now id number (part_with contents numbers.now described.now))
         (numbers_of part_numbers (option_map part_columns (option_copied gone.entry))) numbers.now) }
     ensures err { OnErr result (R.tables rows.new ≡ R.tables rows.old) }
+    ensures stays { LeavesNoMore R.leaves rows.old rows.new }
 {
     let part = part_row(alloc, next, upload.row, number, described, numbers)?;
     s3_row_changes::put_part(rows, alloc, part, row_of(gone))

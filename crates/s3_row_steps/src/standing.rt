@@ -5,6 +5,7 @@ ghost use Rattle.std.specs.Option.{option_copied};
 ghost use Rattle.s3_rows.specs.Soundness.{version_row};
 ghost use Rattle.s3_stored_rows.specs.Bodies.{version_numbers, part_numbers};
 ghost use Rattle.s3_stored_rows.specs.Changes.{version_columns, part_columns};
+ghost use Rattle.s3_stored_rows.specs.Leaving.{LeavesNoMore};
 ghost use Rattle.s3_stored_rows.specs.Queries.{version_of_id};
 ghost use Rattle.s3_row_changes.specs.Trading.{numbers_of};
 
@@ -30,6 +31,7 @@ pub fn replaced<R: StoredRows>(
     ensures row { IfOk result (λ gone. option_map version_row (version_of_id version.now.bucket.items version.now.key.items version.now.id (R.tables rows.old)) ≡ gone.row) }
     ensures numbers { IfOk result (λ gone. gone.numbers.items ≡ numbers_of version_numbers (version_of_id version.now.bucket.items version.now.key.items version.now.id (R.tables rows.old))) }
     ensures same { R.tables rows.new ≡ R.tables rows.old }
+    ensures stays { LeavesNoMore R.leaves rows.old rows.new }
 {
     match rows.version(&version.bucket, &version.key, version.id)? {
         Some(gone) => Ok(GoneVersion {

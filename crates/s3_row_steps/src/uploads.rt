@@ -10,6 +10,7 @@ ghost use Rattle.s3_rows.specs.TableChanges.{version_put, upload_put, upload_dro
 ghost use Rattle.s3_stored_bodies.specs.Numbers.{Contents};
 ghost use Rattle.s3_stored_rows.specs.Bodies.{encoding, version_numbers};
 ghost use Rattle.s3_stored_rows.specs.Changes.{version_columns, upload_columns};
+ghost use Rattle.s3_stored_rows.specs.Leaving.{LeavesNoMore};
 ghost use Rattle.s3_stored_rows.specs.Queries.{version_of_id, upload_of_id};
 ghost use Rattle.s3_row_values.specs.Values.{data_with};
 ghost use Rattle.s3_row_changes.specs.Trading.{numbers_of, sent_numbers};
@@ -45,6 +46,7 @@ pub fn add_upload<R: StoredRows>(
     ensures ok { IfOk result (λ gone. Steps (R.tables rows.old) (R.tables rows.new) (next +ℤ pos 1) bucket.now
         (λ _. UploadAdded key.now id upload.now) gone.items []) }
     ensures err { OnErr result (R.tables rows.new ≡ R.tables rows.old) }
+    ensures stays { LeavesNoMore R.leaves rows.old rows.new }
 {
     let upload = upload_row(alloc, next, bucket, key, id, upload)?;
     let gone = upload_rows(rows, alloc, bucket.as_bytes(), key.as_bytes(), upload.id)?;
@@ -65,6 +67,7 @@ fn put_row<R: StoredRows>(
     ensures ok { IfOk result (λ numbers. (R.tables rows.new ≡ upload_put (upload_columns upload) (R.tables rows.old))
         × (numbers.items ≡ sent_numbers (R.tables rows.old) (upload_of_id upload.bucket.items upload.key.items upload.id (R.tables rows.old)))) }
     ensures err { OnErr result (R.tables rows.new ≡ R.tables rows.old) }
+    ensures stays { LeavesNoMore R.leaves rows.old rows.new }
 {
     let numbers = numbers_sent(alloc, gone)?;
     put_upload(rows, alloc, upload, gone)?;
@@ -87,6 +90,7 @@ pub fn drop_upload<R: StoredRows>(
     ensures ok { OnOk result (Steps (R.tables rows.old) (R.tables rows.new) next bucket.now
         (λ _. UploadDropped key.now id) (sent_numbers (R.tables rows.old) (upload_of_id bucket.now key.now (pos id) (R.tables rows.old))) []) }
     ensures err { OnErr result (R.tables rows.new ≡ R.tables rows.old) }
+    ensures stays { LeavesNoMore R.leaves rows.old rows.new }
 {
     match gone {
         Some(gone) => s3_row_changes::drop_upload(rows, alloc, gone),
@@ -118,6 +122,7 @@ pub fn complete<R: StoredRows>(
         (λ contents. UploadCompleted key.now id (VersionPut number moment (data_with contents numbers.now described.now)))
         (gone.items ++ sent_numbers (R.tables rows.old) (upload_of_id bucket.now key.now (pos id) (R.tables rows.old))) numbers.now) }
     ensures err { OnErr result (R.tables rows.new ≡ R.tables rows.old) }
+    ensures stays { LeavesNoMore R.leaves rows.old rows.new }
 {
     let versioning = versioning_of(rows, bucket)?;
     let version = version_row(
@@ -143,6 +148,7 @@ fn put_completed<R: StoredRows>(
     ensures ok { IfOk result (λ gone. (R.tables rows.new ≡ upload_dropped bucket.now key.now (pos id) (version_put (version_columns version) (R.tables rows.old)))
         × (gone.items ≡ numbers_of version_numbers (version_of_id version.bucket.items version.key.items version.id (R.tables rows.old)))) }
     ensures err { OnErr result (R.tables rows.new ≡ R.tables rows.old) }
+    ensures stays { LeavesNoMore R.leaves rows.old rows.new }
 {
     let gone = replaced(rows, alloc, &version)?;
     put_replacing(rows, alloc, bucket, key, id, version, gone.row, upload)?;
@@ -166,6 +172,7 @@ fn put_replacing<R: StoredRows>(
     requires rows { IfSome (option_copied upload) (AreRowsOf (R.tables rows.old)) }
     ensures ok { OnOk result (R.tables rows.new ≡ upload_dropped bucket.now key.now (pos id) (version_put (version_columns version) (R.tables rows.old))) }
     ensures err { OnErr result (R.tables rows.new ≡ R.tables rows.old) }
+    ensures stays { LeavesNoMore R.leaves rows.old rows.new }
 {
     match upload {
         Some(upload) => s3_row_changes::complete(rows, alloc, version, gone, upload),

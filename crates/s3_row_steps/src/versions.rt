@@ -10,6 +10,7 @@ ghost use Rattle.s3_rows.specs.Soundness.{version_row, has_bucket_row, AreSound}
 ghost use Rattle.s3_stored_bodies.specs.Numbers.{Contents};
 ghost use Rattle.s3_stored_rows.specs.Bodies.{encoding, version_numbers};
 ghost use Rattle.s3_stored_rows.specs.Changes.{version_columns};
+ghost use Rattle.s3_stored_rows.specs.Leaving.{LeavesNoMore};
 ghost use Rattle.s3_stored_rows.specs.Queries.{version_of_id};
 ghost use Rattle.s3_row_values.specs.Values.{data_with};
 ghost use Rattle.s3_row_changes.specs.Trading.{numbers_of};
@@ -50,6 +51,7 @@ pub fn put_version<R: StoredRows>(
     ensures ok { IfOk result (λ gone. Steps (R.tables rows.old) (R.tables rows.new) (next +ℤ pos 1) bucket.now
         (λ contents. KeyChanged key.now (VersionPut number moment (data_with contents numbers.now described.now))) gone.items numbers.now) }
     ensures err { OnErr result (R.tables rows.new ≡ R.tables rows.old) }
+    ensures stays { LeavesNoMore R.leaves rows.old rows.new }
 {
     let versioning = versioning_of(rows, bucket)?;
     let version = version_row(
@@ -76,6 +78,7 @@ pub fn delete<R: StoredRows>(
     ensures ok { IfOk result (λ gone. Steps (R.tables rows.old) (R.tables rows.new) (next +ℤ pos 1) bucket.now
         (λ _. KeyChanged key.now (KeyDeleted number moment)) gone.items []) }
     ensures err { OnErr result (R.tables rows.new ≡ R.tables rows.old) }
+    ensures stays { LeavesNoMore R.leaves rows.old rows.new }
 {
     let versioning = versioning_of(rows, bucket)?;
     match versioning {
@@ -98,6 +101,7 @@ fn drop_null<R: StoredRows>(
     ensures ok { IfOk result (λ gone. Steps (R.tables rows.old) (R.tables rows.new) next bucket.now
         (λ _. KeyChanged key.now (VersionDropped VersionId.Null)) gone.items []) }
     ensures err { OnErr result (R.tables rows.new ≡ R.tables rows.old) }
+    ensures stays { LeavesNoMore R.leaves rows.old rows.new }
 {
     let gone = rows.version(bucket.as_bytes(), key.as_bytes(), NULL)?;
     drop_row(rows, alloc, next, bucket, key, gone.as_ref())
@@ -117,6 +121,7 @@ fn drop_row<R: StoredRows>(
     ensures ok { IfOk result (λ numbers. Steps (R.tables rows.old) (R.tables rows.new) next bucket.now
         (λ _. KeyChanged key.now (VersionDropped VersionId.Null)) numbers.items []) }
     ensures err { OnErr result (R.tables rows.new ≡ R.tables rows.old) }
+    ensures stays { LeavesNoMore R.leaves rows.old rows.new }
 {
     let numbers = numbers_of(alloc, gone)?;
     drop_version(rows, next, bucket, key, VersionId::Null, gone)?;
@@ -142,6 +147,7 @@ fn mark<R: StoredRows>(
     ensures ok { IfOk result (λ gone. Steps (R.tables rows.old) (R.tables rows.new) (next +ℤ pos 1) bucket.now
         (λ _. KeyChanged key.now (KeyDeleted number moment)) gone.items []) }
     ensures err { OnErr result (R.tables rows.new ≡ R.tables rows.old) }
+    ensures stays { LeavesNoMore R.leaves rows.old rows.new }
 {
     let marker = marker_row(alloc, next, bucket, key, versioning, number, moment)?;
     put_row(rows, alloc, marker)
@@ -156,6 +162,7 @@ fn put_row<R: StoredRows>(
     requires sound { AreSound (R.tables rows.old) }
     ensures ok { IfOk result (λ gone. IsPut (R.tables rows.old) (R.tables rows.new) (version_columns version) gone.items) }
     ensures err { OnErr result (R.tables rows.new ≡ R.tables rows.old) }
+    ensures stays { LeavesNoMore R.leaves rows.old rows.new }
 {
     let gone = rows.version(
         version.bucket.as_slice(),
@@ -176,6 +183,7 @@ fn put_in_place<R: StoredRows>(
     requires gone { option_map version_columns (option_copied gone) ≡ version_of_id version.bucket.items version.key.items version.id (R.tables rows.old) }
     ensures ok { IfOk result (λ numbers. IsPut (R.tables rows.old) (R.tables rows.new) (version_columns version) numbers.items) }
     ensures err { OnErr result (R.tables rows.new ≡ R.tables rows.old) }
+    ensures stays { LeavesNoMore R.leaves rows.old rows.new }
 {
     let numbers = numbers_of(alloc, gone)?;
     put_in(rows, alloc, version, row_of(gone))?;
@@ -216,6 +224,7 @@ pub fn drop_version<R: StoredRows>(
     ensures ok { OnOk result (Steps (R.tables rows.old) (R.tables rows.new) next bucket.now
         (λ _. KeyChanged key.now (VersionDropped id)) (numbers_of version_numbers (option_map version_columns (option_copied gone.entry))) []) }
     ensures err { OnErr result (R.tables rows.new ≡ R.tables rows.old) }
+    ensures stays { LeavesNoMore R.leaves rows.old rows.new }
 {
     match gone {
         None => Ok(()),

@@ -1,5 +1,6 @@
 //! The bytes that a column names by the numbers of bodies.
 ghost use Rattle.std.specs.Prelude.{◌≡◌, ◌<◌, All, IfOk};
+ghost use Rattle.s3_stored_bodies.specs.Numbers.{StillOutlive};
 ghost use Rattle.s3_columns.specs.Numbers.{numbers_in};
 ghost use Rattle.s3_stored_rows.specs.Bodies.{bytes_in};
 
@@ -20,6 +21,7 @@ pub(crate) fn body_in<B: StoredBodies>(
     ensures value { IfOk result (λ body. body ≡ bytes_in (B.contents bodies.old) column.now) }
     ensures contents { B.contents bodies.new ≡ B.contents bodies.old }
     ensures uses { B.uses bodies.new ≡ B.uses bodies.old }
+    ensures outlives { StillOutlive B.outlives bodies.old bodies.new }
 {
     let numbers = read_numbers(alloc, column)?;
     joined(bodies, alloc, numbers.as_slice())

@@ -8,7 +8,7 @@ ghost use Rattle.s3_records.specs.Rows.{version_row};
 ghost use Rattle.s3_rows.specs.Meaning.{version_of, content_of, data_of};
 ghost use Rattle.s3_rows.specs.ReadingLaws.{row_facts, row_listed};
 ghost use Rattle.s3_rows.specs.KeyListLaws.{key_listed};
-ghost use Rattle.s3_stored_bodies.specs.Numbers.{Contents};
+ghost use Rattle.s3_stored_bodies.specs.Numbers.{Contents, StillOutlive};
 ghost use Rattle.s3_stored_rows.specs.Bodies.{encoding, version_numbers};
 ghost use Rattle.s3_stored_rows.specs.Changes.{bucket_columns, version_columns};
 
@@ -58,6 +58,7 @@ pub fn version_from<B: StoredBodies>(
     ensures value { IfOk result (λ version. version ≡ version_of (encoding (B.contents bodies.old)) (version_columns row.now)) }
     ensures contents { B.contents bodies.new ≡ B.contents bodies.old }
     ensures uses { B.uses bodies.new ≡ B.uses bodies.old }
+    ensures outlives { StillOutlive B.outlives bodies.old bodies.new }
 {
     let moment = moment_in(row.moment)?;
     match content_from(alloc, bodies, row) {
@@ -132,6 +133,7 @@ fn content_from<B: StoredBodies>(
     ensures value { IfOk result (λ content. content ≡ content_of (encoding (B.contents bodies.old)) (version_columns row.now)) }
     ensures contents { B.contents bodies.new ≡ B.contents bodies.old }
     ensures uses { B.uses bodies.new ≡ B.uses bodies.old }
+    ensures outlives { StillOutlive B.outlives bodies.old bodies.new }
 {
     if row.marker == MARKER {
         return Ok(Content::DeleteMarker);
@@ -152,6 +154,7 @@ fn data_from<B: StoredBodies>(
     ensures value { IfOk result (λ stored. stored ≡ data_of (encoding (B.contents bodies.old)) (version_columns row.now)) }
     ensures contents { B.contents bodies.new ≡ B.contents bodies.old }
     ensures uses { B.uses bodies.new ≡ B.uses bodies.old }
+    ensures outlives { StillOutlive B.outlives bodies.old bodies.new }
 {
     let tag = tag_in(row.tag.as_slice())?;
     let kept = kept_in(alloc, row.kept.as_slice())?;

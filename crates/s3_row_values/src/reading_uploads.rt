@@ -8,7 +8,7 @@ ghost use Rattle.s3_rows.specs.ListLaws.{part_told, upload_listed};
 ghost use Rattle.s3_rows.specs.ReadingLaws.{numbered_part};
 ghost use Rattle.s3_rows.specs.Soundness.{is_part_row};
 ghost use Rattle.s3_rows.specs.UploadLaws.{upload_begun};
-ghost use Rattle.s3_stored_bodies.specs.Numbers.{Contents};
+ghost use Rattle.s3_stored_bodies.specs.Numbers.{Contents, StillOutlive};
 ghost use Rattle.s3_stored_rows.specs.Bodies.{encoding, part_numbers};
 ghost use Rattle.s3_stored_rows.specs.Changes.{upload_columns, part_columns};
 
@@ -62,6 +62,7 @@ pub fn part_from<B: StoredBodies>(
     ensures value { IfOk result (λ part. part ≡ part_of (encoding (B.contents bodies.old)) (part_columns row.now)) }
     ensures contents { B.contents bodies.new ≡ B.contents bodies.old }
     ensures uses { B.uses bodies.new ≡ B.uses bodies.old }
+    ensures outlives { StillOutlive B.outlives bodies.old bodies.new }
 {
     let moment = moment_in(row.moment)?;
     let digest = digest_in(row.digest.as_slice())?;
@@ -90,6 +91,7 @@ pub fn upload_from<B: StoredBodies>(
         { parts = each (λ (p : StoredPart). numbered_part (encoding (B.contents bodies.old)) (part_columns p)) parts.now }) }
     ensures contents { B.contents bodies.new ≡ B.contents bodies.old }
     ensures uses { B.uses bodies.new ≡ B.uses bodies.old }
+    ensures outlives { StillOutlive B.outlives bodies.old bodies.new }
 {
     let mut upload = begun(alloc, row)?;
     match put_parts(alloc, bodies, &mut upload, parts) {
@@ -126,6 +128,7 @@ fn put_parts<B: StoredBodies>(
         { parts = each (λ (p : StoredPart). numbered_part (encoding (B.contents bodies.old)) (part_columns p)) parts.now }) }
     ensures contents { B.contents bodies.new ≡ B.contents bodies.old }
     ensures uses { B.uses bodies.new ≡ B.uses bodies.old }
+    ensures outlives { StillOutlive B.outlives bodies.old bodies.new }
 {
     for part in parts {
         put_part(alloc, bodies, upload, part)?;
@@ -145,6 +148,7 @@ fn put_part<B: StoredBodies>(
         ≡ with_part (unsigned_abs row.now.part) (part_of (encoding (B.contents bodies.old)) (part_columns row.now)) upload.old) }
     ensures contents { B.contents bodies.new ≡ B.contents bodies.old }
     ensures uses { B.uses bodies.new ≡ B.uses bodies.old }
+    ensures outlives { StillOutlive B.outlives bodies.old bodies.new }
 {
     let number = part_number_in(row.part)?;
     let part = part_from(alloc, bodies, row)?;

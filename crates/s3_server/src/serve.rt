@@ -290,7 +290,7 @@ fn serve_store<
     output: &mut W,
 ) -> Result<(), Fault<'a>>
     requires rounds { 1 ≤ mode.now.rounds }
-    ensures served { OnOk result (HasServedAndTold config.now store mode.now.address.now mode.now.workers mode.now.rounds network.old network.new report.old report.new
+    ensures served { OnOk result (HasServedAndTold config.now store.standing mode.now.address.now mode.now.workers mode.now.rounds network.old network.new report.old report.new
         (W.contents output.old) (W.contents output.new)) }
     ensures refused { IfErr result (IsKeptFault mode.now) }
     ensures begun { OnErr result (IsToldInPart mode.now.rounds (W.contents output.old) (W.contents output.new)) }
@@ -310,8 +310,8 @@ fn found_store<'a, D: FolderKeeper>(
     path: &'a str,
     config: &Config,
 ) -> Result<Store<D::Kept>, Fault<'a>>
-    ensures buckets { IfOk result (λ store. HasBuckets config.now.buckets store.state) }
-    ensures sound { IfOk result (λ store. IsSoundBase store.state store.number) }
+    ensures buckets { IfOk result (λ store. HasBuckets config.now.buckets store.standing.state) }
+    ensures sound { IfOk result (λ store. IsSoundBase store.standing.state store.standing.number) }
     ensures refused { IfErr result (IsFolderFault (Some path.entry)) }
 {
     match folders.open(alloc, path, config.buckets()) {
@@ -330,7 +330,7 @@ fn opened_store<Q: Keeper>(
     keeper: &Q,
     config: &Config,
 ) -> Result<Store<Q::Kept>, NoMemory>
-    ensures { IfOk result (λ store. store ≡ opened (opening config.now.buckets)) }
+    ensures { IfOk result (λ store. store.standing ≡ opened (opening config.now.buckets)) }
 {
     numbers_stay_below::<Body>();
     let records = keeper.keep(alloc, config.buckets())?;

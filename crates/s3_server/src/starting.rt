@@ -18,7 +18,7 @@ pub(crate) fn start<K: Records + Drop>(
     workers: u64,
 ) -> Result<Start<K>, NoMemory>
     ensures settings { IfOk result (λ start. start.base.settings ≡ config.now) }
-    ensures store { IfOk result (λ start. start.base.store ≡ store) }
+    ensures store { IfOk result (λ start. start.base.store ≡ store.standing) }
 {
     Start::new(alloc, config, store, rosters(workers))
 }

@@ -1,5 +1,5 @@
 -- A connection over a store of its own: what it takes, and that what it has written is what a replay writes.
-use Rattle.std.proofs.Common.{◌≡◌, ◌≢◌, ◌<◌, ℕ, zero, suc, true, false, List, [], ◌∷◌, ◌++◌, length, map, Result, Ok, Err, IfOk, OnOk, OnErr, refl, sym, ap, subst, ◌∙◌}
+use Rattle.std.proofs.Common.{◌≡◌, ◌≢◌, ◌<◌, ℕ, zero, suc, true, false, List, [], ◌∷◌, ◌++◌, length, map, None, Result, Ok, Err, IfOk, OnOk, OnErr, refl, sym, ap, subst, ◌∙◌}
 use Rattle.std.specs.List.{AllByRecursion}
 use Rattle.s3_config.specs.Settings.{Settings}
 use Rattle.s3_http_heads.specs.Find.{found_in, skip_pairs, text_length}
@@ -26,7 +26,7 @@ input_of bytes = record { bytes = bytes; ended = false }
 -- nothing has come
 pub begun : (settings : Settings) (moment : ℕ) (played : Playing) (recorded_store : Journal) (moments : List ℕ) (rules : Rules) (store : stores.Standing)
     → moments ≡ moment ∷ [] → ((s : Settings) → Plays played s moments (input_of []) [])
-    → recorded_store ≡ record { origin = recorded_store.origin; rules = rules; opening = store; entries = []; store = store }
+    → recorded_store ≡ record { origin = recorded_store.origin; rules = rules; opening = store; entries = []; store = store; committed = None }
     → rules ≡ rules_of settings → store ≡ stores.opened (opening settings.buckets)
     → HasCome (record { settings = settings; played = played; recorded_store = recorded_store }) settings moment []
 begun settings moment played recorded_store moments rules store one plays is rules_is store_is = record {

@@ -29,7 +29,7 @@ use Rattle.s3_simulation.proofs.WorldLemmas.{same_some, there}
 -- connections of which nothing came
 pub begins : (settings : Settings) (connections : List Playing) (recorded_store : Journal) (given : List (Vec ℕ))
     → AreFresh connections (each_moments given) (length given)
-    → recorded_store ≡ record { origin = recorded_store.origin; rules = rules_of settings; opening = opened (opening settings.buckets); entries = []; store = opened (opening settings.buckets) }
+    → recorded_store ≡ record { origin = recorded_store.origin; rules = rules_of settings; opening = opened (opening settings.buckets); entries = []; store = opened (opening settings.buckets); committed = None }
     → StandsAfter (record { settings = settings; connections = connections; recorded_store = recorded_store }) (each_moments given) []
 begins settings connections recorded_store given fresh is =
     subst (λ (j : Journal). StandsAfter (record { settings = settings; connections = connections; recorded_store = j }) (each_moments given) []) (sym is)

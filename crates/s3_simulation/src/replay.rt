@@ -66,7 +66,7 @@ impl<'a, R: Records + Drop> Replay<'a, R> {
         store: Store<R>,
         moment: &'a Moment,
     ) -> Result<Replay<'a, R>, NoMemory>
-        requires opening { store ≡ opened (opening config.now.buckets) }
+        requires opening { store.standing ≡ opened (opening config.now.buckets) }
         ensures { IfOk result (λ replay. HasTaken replay config.now moment.now []) }
     {
         let rules = Rules::of(config);

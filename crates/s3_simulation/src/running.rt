@@ -34,7 +34,7 @@ pub fn run<'a, R: Records + Drop>(
     moments: &'a [Vec<Moment>],
     events: &[Event],
 ) -> Result<World<'a, R>, NoMemory>
-    requires opening { store ≡ opened (opening config.now.buckets) }
+    requires opening { store.standing ≡ opened (opening config.now.buckets) }
     ensures runs { IfOk result (λ world.
         Runs config.now (each_moments moments.now) events.now (written_by_all world.connections) world.recorded_store.entries) }
     ensures stands { IfOk result (λ world. StandsAfter world (each_moments moments.now) events.now) }

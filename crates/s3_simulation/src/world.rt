@@ -71,7 +71,7 @@ impl<'a, R: Records + Drop> World<'a, R> {
         store: Store<R>,
         moments: &'a [Vec<Moment>],
     ) -> Result<World<'a, R>, NoMemory>
-        requires opening { store ≡ opened (opening config.now.buckets) }
+        requires opening { store.standing ≡ opened (opening config.now.buckets) }
         ensures begins { IfOk result (λ world. StandsAfter world (each_moments moments.now) []) }
         ensures settings { IfOk result (λ world. world.settings ≡ config.now) }
     {

@@ -1,5 +1,6 @@
 //! What the commands on buckets do.
 ghost use Rattle.std.specs.Prelude.{◌≡◌, ℕ, true, false, IfOk, OnErr, IsTrue};
+ghost use Rattle.s3_records.specs.Leaving.{StaysKnown};
 ghost use Rattle.s3_machine.specs.Effects.{is_refused, takes_room_in_bucket};
 ghost use Rattle.s3_store.specs.Steps.{bucket_step};
 
@@ -37,6 +38,7 @@ pub(crate) fn take_on_bucket<R: Records>(
     ensures memory { OnErr result (R.is_in_memory ≡ true
         → is_refused (bucket_step rules.now (R.catalogue records.old) moment name.now asked).1 ≡ false) }
     ensures room { OnErr result (R.is_in_memory ≡ true → IsTrue (takes_room_in_bucket asked)) }
+    ensures stays { StaysKnown R.leaves_one_of records.old records.new }
 {
     match asked {
         BucketCommand::Create => create(records, alloc, name, moment),
@@ -65,6 +67,7 @@ fn create<R: Records>(
     ensures err { OnErr result (R.catalogue records.new ≡ R.catalogue records.old) }
     ensures memory { OnErr result (R.is_in_memory ≡ true → (rules : Rules)
         → is_refused (bucket_step rules (R.catalogue records.old) moment name.now BucketCommand.Create).1 ≡ false) }
+    ensures stays { StaysKnown R.leaves_one_of records.old records.new }
 {
     match records.bucket(alloc, name)? {
         Some(_) => Ok(refused(Code::BucketAlreadyOwnedByYou)),
@@ -89,6 +92,7 @@ fn head<R: Records>(
         → bucket_step rules.now (R.catalogue records.old) t name.now BucketCommand.Head ≡ (R.catalogue records.new, outcome)) }
     ensures same { R.catalogue records.new ≡ R.catalogue records.old }
     ensures memory { OnErr result (R.is_in_memory ≡ false) }
+    ensures stays { StaysKnown R.leaves_one_of records.old records.new }
 {
     match records.bucket(alloc, name)? {
         None => Ok(refused(Code::NoSuchBucket)),
@@ -109,6 +113,7 @@ fn delete<R: Records>(
         → bucket_step rules (R.catalogue records.old) t name.now BucketCommand.Delete ≡ (R.catalogue records.new, outcome)) }
     ensures err { OnErr result (R.catalogue records.new ≡ R.catalogue records.old) }
     ensures memory { OnErr result (R.is_in_memory ≡ false) }
+    ensures stays { StaysKnown R.leaves_one_of records.old records.new }
 {
     match records.bucket(alloc, name)? {
         None => Ok(refused(Code::NoSuchBucket)),
@@ -136,6 +141,7 @@ fn put_versioning<R: Records>(
         ≡ (R.catalogue records.new, outcome)) }
     ensures err { OnErr result (R.catalogue records.new ≡ R.catalogue records.old) }
     ensures memory { OnErr result (R.is_in_memory ≡ false) }
+    ensures stays { StaysKnown R.leaves_one_of records.old records.new }
 {
     match records.bucket(alloc, name)? {
         None => Ok(refused(Code::NoSuchBucket)),
@@ -158,6 +164,7 @@ fn get_versioning<R: Records>(
         ≡ (R.catalogue records.new, outcome)) }
     ensures same { R.catalogue records.new ≡ R.catalogue records.old }
     ensures memory { OnErr result (R.is_in_memory ≡ false) }
+    ensures stays { StaysKnown R.leaves_one_of records.old records.new }
 {
     match records.bucket(alloc, name)? {
         None => Ok(refused(Code::NoSuchBucket)),
@@ -180,6 +187,7 @@ fn get_configuration<R: Records>(
         ≡ (R.catalogue records.new, outcome)) }
     ensures same { R.catalogue records.new ≡ R.catalogue records.old }
     ensures memory { OnErr result (R.is_in_memory ≡ false) }
+    ensures stays { StaysKnown R.leaves_one_of records.old records.new }
 {
     match records.bucket(alloc, name)? {
         None => Ok(refused(Code::NoSuchBucket)),

@@ -1,5 +1,6 @@
 //! What the completion of an upload does.
 ghost use Rattle.std.specs.Prelude.{◌≡◌, Some, true, false, IfOk, OnErr};
+ghost use Rattle.s3_records.specs.Leaving.{StaysKnown};
 ghost use Rattle.s3_records.specs.OpenUploads.{bytes_listed, completed_at, upload_at};
 ghost use Rattle.s3_documents.specs.Document as documents;
 ghost use Rattle.s3_machine.specs.Effects.{is_refused};
@@ -44,6 +45,7 @@ pub(crate) fn complete<R: Records>(
         → is_refused
         (upload_step rules.now (R.catalogue records.old) number moment bucket.now key id (UploadCommand.Complete listed.now condition.now)).1
         ≡ false) }
+    ensures stays { StaysKnown R.leaves_one_of records.old records.new }
 {
     match bar(records, alloc, bucket, &key, condition) {
         Ok(None) => join(
@@ -77,6 +79,7 @@ fn refuse_barred<R: Records>(
         ≡ Outcome.Refused (completion_code code (upload_at (R.catalogue records.old) bucket.now key.now id)) false) }
     ensures same { R.catalogue records.new ≡ R.catalogue records.old }
     ensures memory { OnErr result (R.is_in_memory ≡ false) }
+    ensures stays { StaysKnown R.leaves_one_of records.old records.new }
 {
     if records.has_upload(alloc, bucket, key, id)? {
         Ok(refused(code))
@@ -109,6 +112,7 @@ fn join<R: Records>(
         → is_refused (completed_as (R.catalogue records.old) number moment bucket.now key id
         (completed_at least_part listed.now (upload_at (R.catalogue records.old) bucket.now key id))).1
         ≡ false) }
+    ensures stays { StaysKnown R.leaves_one_of records.old records.new }
 {
     match records.completed(alloc, bucket, &key, id, least_part, listed.as_slice())? {
         Err(code) => Ok(refused(code)),
@@ -159,6 +163,7 @@ fn put_joined<R: Records>(
     ensures ok { IfOk result (λ outcome.
         completion_step (R.catalogue records.old) number moment bucket.now key id stored ≡ (R.catalogue records.new, outcome)) }
     ensures err { OnErr result (R.catalogue records.new ≡ R.catalogue records.old) }
+    ensures stays { StaysKnown R.leaves_one_of records.old records.new }
 {
     let tag = stored.tag.copy();
     let Ok(document) = completed_document(alloc, bucket, &key, &tag) else {

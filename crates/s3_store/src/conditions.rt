@@ -1,5 +1,6 @@
 //! What keeps a write with a condition from storing.
 ghost use Rattle.std.specs.Prelude.{◌≡◌, false, IfOk, OnErr};
+ghost use Rattle.s3_records.specs.Leaving.{StaysKnown};
 ghost use Rattle.s3_machine.specs.Step.{tag_at, is_barred, barred_code};
 ghost use Rattle.s3_store.specs.Steps.{bar_at, bar_by, tag_told};
 
@@ -24,6 +25,7 @@ pub(crate) fn bar<R: Records>(
     ensures value { IfOk result (λ bar. bar ≡ bar_at (R.catalogue records.old) bucket.now key.now condition.now) }
     ensures same { R.catalogue records.new ≡ R.catalogue records.old }
     ensures memory { OnErr result (R.is_in_memory ≡ false) }
+    ensures stays { StaysKnown R.leaves_one_of records.old records.new }
 {
     match condition {
         WriteCondition::Unconditional => Ok(None),
@@ -45,6 +47,7 @@ pub(crate) fn bar_by_tags<R: Records>(
     ensures value { IfOk result (λ bar. bar ≡ bar_at (R.catalogue records.old) bucket.now key.now (WriteCondition.IfMatch tags)) }
     ensures same { R.catalogue records.new ≡ R.catalogue records.old }
     ensures memory { OnErr result (R.is_in_memory ≡ false) }
+    ensures stays { StaysKnown R.leaves_one_of records.old records.new }
 {
     let condition = WriteCondition::IfMatch(tags);
     let barred = bar(records, alloc, bucket, key, &condition);
@@ -63,6 +66,7 @@ fn tag_at<R: Records>(
     ensures value { IfOk result (λ tag. tag ≡ tag_at (R.catalogue records.old) bucket.now key.now) }
     ensures same { R.catalogue records.new ≡ R.catalogue records.old }
     ensures memory { OnErr result (R.is_in_memory ≡ false) }
+    ensures stays { StaysKnown R.leaves_one_of records.old records.new }
 {
     let facts = records.facts(alloc, bucket, key, None)?;
     Ok(tag_told(facts))

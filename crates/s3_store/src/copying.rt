@@ -1,6 +1,7 @@
 //! What a copy does.
 ghost use Rattle.std.specs.Prelude.{◌≡◌, true, false, Some, IfOk, OnErr, is_ok};
 ghost use Rattle.s3_records.specs.Catalogue.{bytes_asked};
+ghost use Rattle.s3_records.specs.Leaving.{StaysKnown};
 ghost use Rattle.s3_machine.specs.Effects.{is_refused};
 ghost use Rattle.s3_machine.specs.Step as steps;
 ghost use Rattle.s3_store.specs.Steps.{key_step, copy_step, data_found, MayEnter};
@@ -36,6 +37,7 @@ pub(crate) fn copy<R: Records>(
     ensures err { OnErr result (R.catalogue records.new ≡ R.catalogue records.old) }
     ensures memory { OnErr result (R.is_in_memory ≡ true
         → is_refused (key_step (R.catalogue records.old) number moment bucket.now key (KeyCommand.Copy asked)).1 ≡ false) }
+    ensures stays { StaysKnown R.leaves_one_of records.old records.new }
 {
     let ObjectCopy {
         source,
@@ -77,6 +79,7 @@ fn copy_from<R: Records>(
     ensures memory { OnErr result (R.is_in_memory ≡ true
         → is_refused (key_step (R.catalogue records.old) number moment bucket.now key (KeyCommand.Copy (record { source = source.now; description = description }))).1
         ≡ false) }
+    ensures stays { StaysKnown R.leaves_one_of records.old records.new }
 {
     match copied(records, alloc, source, description)? {
         Err(refusal) => Ok(refused_with(refusal)),
@@ -103,6 +106,7 @@ fn put_copy<R: Records>(
     ensures ok { IfOk result (λ outcome.
         copy_step (R.catalogue records.old) number moment bucket.now key stored ≡ (R.catalogue records.new, outcome)) }
     ensures err { OnErr result (R.catalogue records.new ≡ R.catalogue records.old) }
+    ensures stays { StaysKnown R.leaves_one_of records.old records.new }
 {
     let tag = stored.tag.copy();
     records.put_copy(
@@ -132,6 +136,7 @@ fn copied<R: Records>(
     ensures same { R.catalogue records.new ≡ R.catalogue records.old }
     ensures memory { OnErr result (R.is_in_memory ≡ true
         → is_ok (steps.copied (R.catalogue records.old) (record { source = source.now; description = description })) ≡ true) }
+    ensures stays { StaysKnown R.leaves_one_of records.old records.new }
 {
     match find_source(records, alloc, source, None) {
         Ok(found) => Ok(data_found(description, found)),

@@ -1,6 +1,7 @@
 //! What DeleteObjects does.
 ghost use Rattle.std.specs.Prelude.{◌≡◌, ℕ, true, false, IfOk, OnErr, IsTrue};
 ghost use Rattle.s3_records.specs.Catalogue.{has_bucket};
+ghost use Rattle.s3_records.specs.Leaving.{StaysKnown};
 ghost use Rattle.s3_records.specs.Places.{AreBelow};
 ghost use Rattle.s3_machine.specs.declared.rules.Rules.{Rules};
 ghost use Rattle.s3_machine.specs.Effects.{is_refused};
@@ -35,6 +36,7 @@ pub(crate) fn delete_objects<R: Records>(
     ensures err { OnErr result (R.catalogue records.new ≡ R.catalogue records.old) }
     ensures memory { OnErr result (R.is_in_memory ≡ true → (rules : Rules)
         → is_refused (step rules (R.catalogue records.old) number moment (Command.DeleteObjects bucket.now deletion)).1 ≡ false) }
+    ensures stays { StaysKnown R.leaves_one_of records.old records.new }
 {
     match records.bucket(alloc, bucket) {
         Ok(Some(_)) => delete_in_bucket(records, alloc, bucket, deletion, number, moment),
@@ -63,6 +65,7 @@ fn delete_in_bucket<R: Records>(
     ensures ok { IfOk result (λ outcome.
         deletion_step (R.catalogue records.old) number moment bucket.now deletion ≡ (R.catalogue records.new, outcome)) }
     ensures err { OnErr result (R.catalogue records.new ≡ R.catalogue records.old) }
+    ensures stays { StaysKnown R.leaves_one_of records.old records.new }
 {
     let draft = Document::of_deletions(alloc, deletion)?;
     delete_drafted(records, alloc, bucket, draft, number, moment)
@@ -82,6 +85,7 @@ fn delete_drafted<R: Records>(
     ensures ok { IfOk result (λ outcome.
         deletion_step (R.catalogue records.old) number moment bucket.now draft ≡ (R.catalogue records.new, outcome)) }
     ensures err { OnErr result (R.catalogue records.new ≡ R.catalogue records.old) }
+    ensures stays { StaysKnown R.leaves_one_of records.old records.new }
 {
     match records.delete_all(alloc, bucket, draft.objects(), number, moment) {
         Ok(markers) => Ok(Outcome::Told {

@@ -3,6 +3,7 @@ ghost use Rattle.std.specs.Prelude.{◌≡◌, ℕ, true, false, None, Some, IfO
 ghost use Rattle.std.specs.Option.{unwrap_or};
 ghost use Rattle.s3_versions.specs.Rules.{is_delete_marker};
 ghost use Rattle.s3_records.specs.Catalogue.{has_bucket, versioning_of};
+ghost use Rattle.s3_records.specs.Leaving.{StaysKnown};
 ghost use Rattle.s3_records.specs.Places.{AreBelow};
 ghost use Rattle.s3_machine.specs.declared.rules.Rules.{Rules};
 ghost use Rattle.s3_machine.specs.Effects.{is_refused, takes_room, takes_room_at_key};
@@ -42,6 +43,7 @@ pub(crate) fn take_on_key<R: Records>(
     ensures memory { OnErr result (R.is_in_memory ≡ true → (rules : Rules)
         → is_refused (step rules (R.catalogue records.old) number moment (Command.Key bucket.now key asked)).1 ≡ false) }
     ensures room { OnErr result (R.is_in_memory ≡ true → IsTrue (takes_room (R.catalogue records.old) (Command.Key bucket.now key asked))) }
+    ensures stays { StaysKnown R.leaves_one_of records.old records.new }
 {
     match records.bucket(alloc, bucket) {
         Ok(Some(facts)) => take_in_bucket(
@@ -89,6 +91,7 @@ fn take_in_bucket<R: Records>(
     ensures memory { OnErr result (R.is_in_memory ≡ true
         → is_refused (key_step (R.catalogue records.old) number moment bucket.now key asked).1 ≡ false) }
     ensures room { OnErr result (R.is_in_memory ≡ true → IsTrue (takes_room_at_key versioning asked)) }
+    ensures stays { StaysKnown R.leaves_one_of records.old records.new }
 {
     match asked {
         KeyCommand::Put(asked) => put(
@@ -130,6 +133,7 @@ fn put<R: Records>(
     ensures err { OnErr result (R.catalogue records.new ≡ R.catalogue records.old) }
     ensures memory { OnErr result (R.is_in_memory ≡ true
         → is_refused (key_step (R.catalogue records.old) number moment bucket.now key (KeyCommand.Put asked)).1 ≡ false) }
+    ensures stays { StaysKnown R.leaves_one_of records.old records.new }
 {
     match bar(records, alloc, bucket, &key, &asked.condition) {
         Ok(None) => store(
@@ -167,6 +171,7 @@ fn store<R: Records>(
     ensures ok { IfOk result (λ outcome.
         put_step (R.catalogue records.old) number moment bucket.now key (data_of asked) ≡ (R.catalogue records.new, outcome)) }
     ensures err { OnErr result (R.catalogue records.new ≡ R.catalogue records.old) }
+    ensures stays { StaysKnown R.leaves_one_of records.old records.new }
 {
     let tag = asked.payload.tag();
     let stored = stored_of(asked)?;
@@ -207,6 +212,7 @@ fn read<R: Records>(
     ensures same { R.catalogue records.new ≡ R.catalogue records.old }
     ensures memory { OnErr result (R.is_in_memory ≡ true → (n t : ℕ)
         → is_refused (key_step (R.catalogue records.old) n t bucket.now key.now (KeyCommand.Read asked)).1 ≡ false) }
+    ensures stays { StaysKnown R.leaves_one_of records.old records.new }
 {
     let facts = records.facts(alloc, bucket, key, asked.version)?;
     match selected(facts, &asked.conditions) {
@@ -263,6 +269,7 @@ fn read_tags<R: Records>(
     ensures same { R.catalogue records.new ≡ R.catalogue records.old }
     ensures memory { OnErr result (R.is_in_memory ≡ true → (n t : ℕ)
         → is_refused (key_step (R.catalogue records.old) n t bucket.now key.now (KeyCommand.ReadTags version)).1 ≡ false) }
+    ensures stays { StaysKnown R.leaves_one_of records.old records.new }
 {
     let read = look(records, alloc, bucket, versioning, key, version)?;
     Ok(tags_of(read))
@@ -297,6 +304,7 @@ fn delete<R: Records>(
     ensures memory { OnErr result (R.is_in_memory ≡ true
         → is_refused (key_step (R.catalogue records.old) number moment bucket.now key (KeyCommand.Delete version)).1 ≡ false) }
     ensures room { OnErr result (R.is_in_memory ≡ true → IsTrue (takes_room_at_key versioning (KeyCommand.Delete version))) }
+    ensures stays { StaysKnown R.leaves_one_of records.old records.new }
 {
     match version {
         None => delete_key(records, alloc, bucket, versioning, key, number, moment),
@@ -325,6 +333,7 @@ fn delete_matching<R: Records>(
     ensures memory { OnErr result (R.is_in_memory ≡ true
         → is_refused (key_step (R.catalogue records.old) number moment bucket.now key (KeyCommand.DeleteMatching tags)).1 ≡ false) }
     ensures room { OnErr result (R.is_in_memory ≡ true → IsTrue (makes_marker versioning)) }
+    ensures stays { StaysKnown R.leaves_one_of records.old records.new }
 {
     match bar_by_tags(records, alloc, bucket, &key, tags) {
         Ok(None) => delete_key(records, alloc, bucket, versioning, key, number, moment),
@@ -358,6 +367,7 @@ fn delete_key<R: Records>(
     ensures memory { OnErr result (R.is_in_memory ≡ true
         → is_refused (key_step (R.catalogue records.old) number moment bucket.now key (KeyCommand.Delete None)).1 ≡ false) }
     ensures room { OnErr result (R.is_in_memory ≡ true → IsTrue (makes_marker versioning)) }
+    ensures stays { StaysKnown R.leaves_one_of records.old records.new }
 {
     records.delete(alloc, bucket, key, number, moment)?;
     Ok(Outcome::Deleted {
@@ -382,6 +392,7 @@ fn drop_version<R: Records>(
         → key_step (R.catalogue records.old) n t bucket.now key.now (KeyCommand.Delete (Some id)) ≡ (R.catalogue records.new, outcome)) }
     ensures err { OnErr result (R.catalogue records.new ≡ R.catalogue records.old) }
     ensures memory { OnErr result (R.is_in_memory ≡ false) }
+    ensures stays { StaysKnown R.leaves_one_of records.old records.new }
 {
     let gone = records.drop_version(alloc, bucket, key, id)?;
     Ok(Outcome::Deleted {

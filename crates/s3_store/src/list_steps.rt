@@ -1,5 +1,6 @@
 //! What the commands do that tell a document of a bucket or of all buckets.
 ghost use Rattle.std.specs.Prelude.{◌≡◌, ℕ, true, false, IfOk, OnErr};
+ghost use Rattle.s3_records.specs.Leaving.{StaysKnown};
 ghost use Rattle.s3_records.specs.Rows.{key_rows};
 ghost use Rattle.s3_listings.specs.Objects.{objects_told};
 ghost use Rattle.s3_listings.specs.Uploads.{uploads_told};
@@ -25,6 +26,7 @@ pub(crate) fn tell_buckets<R: Records>(records: &mut R, alloc: Global) -> Result
     ensures ok { IfOk result (λ outcome. (rules : Rules) (n t : ℕ)
         → step rules (R.catalogue records.old) n t Command.ListBuckets ≡ (R.catalogue records.new, outcome)) }
     ensures same { R.catalogue records.new ≡ R.catalogue records.old }
+    ensures stays { StaysKnown R.leaves_one_of records.old records.new }
 {
     let rows = records.buckets(alloc)?;
     let document = Document::of_buckets(alloc, rows)?;
@@ -45,6 +47,7 @@ pub(crate) fn tell_location<R: Records>(
     ensures same { R.catalogue records.new ≡ R.catalogue records.old }
     ensures memory { OnErr result (R.is_in_memory ≡ true → (t : ℕ)
         → is_refused (bucket_step rules.now (R.catalogue records.old) t name.now BucketCommand.GetLocation).1 ≡ false) }
+    ensures stays { StaysKnown R.leaves_one_of records.old records.new }
 {
     match records.bucket(alloc, name)? {
         None => Ok(refused(Code::NoSuchBucket)),
@@ -70,6 +73,7 @@ pub(crate) fn tell_objects<R: Records>(
     ensures same { R.catalogue records.new ≡ R.catalogue records.old }
     ensures memory { OnErr result (R.is_in_memory ≡ true → (rules : Rules) (t : ℕ)
         → is_refused (bucket_step rules (R.catalogue records.old) t name.now (BucketCommand.ListObjects asked)).1 ≡ false) }
+    ensures stays { StaysKnown R.leaves_one_of records.old records.new }
 {
     match records.bucket(alloc, name) {
         Ok(Some(_)) => tell_objects_of(records, alloc, name, asked),
@@ -94,6 +98,7 @@ fn tell_objects_of<R: Records>(
     ensures value { IfOk result (λ outcome. outcome
         ≡ Outcome.Told (documents.objects name.now asked (objects_told asked (key_rows (R.catalogue records.old) name.now)))) }
     ensures same { R.catalogue records.new ≡ R.catalogue records.old }
+    ensures stays { StaysKnown R.leaves_one_of records.old records.new }
 {
     let Ok(kept) = name.copy() else {
         drop(asked);
@@ -118,6 +123,7 @@ pub(crate) fn tell_versions<R: Records>(
     ensures same { R.catalogue records.new ≡ R.catalogue records.old }
     ensures memory { OnErr result (R.is_in_memory ≡ true → (rules : Rules) (t : ℕ)
         → is_refused (bucket_step rules (R.catalogue records.old) t name.now (BucketCommand.ListVersions asked)).1 ≡ false) }
+    ensures stays { StaysKnown R.leaves_one_of records.old records.new }
 {
     match records.bucket(alloc, name) {
         Ok(Some(_)) => tell_versions_of(records, alloc, name, asked),
@@ -142,6 +148,7 @@ fn tell_versions_of<R: Records>(
     ensures value { IfOk result (λ outcome. outcome
         ≡ Outcome.Told (documents.versions name.now asked (versions_told asked (R.catalogue records.old) name.now))) }
     ensures same { R.catalogue records.new ≡ R.catalogue records.old }
+    ensures stays { StaysKnown R.leaves_one_of records.old records.new }
 {
     let kept = name.copy()?;
     let page = list_versions(records, alloc, name, &asked)?;
@@ -163,6 +170,7 @@ pub(crate) fn tell_uploads<R: Records>(
     ensures same { R.catalogue records.new ≡ R.catalogue records.old }
     ensures memory { OnErr result (R.is_in_memory ≡ true → (rules : Rules) (t : ℕ)
         → is_refused (bucket_step rules (R.catalogue records.old) t name.now (BucketCommand.ListUploads asked)).1 ≡ false) }
+    ensures stays { StaysKnown R.leaves_one_of records.old records.new }
 {
     match records.bucket(alloc, name) {
         Ok(Some(_)) => tell_uploads_of(records, alloc, name, asked),
@@ -187,6 +195,7 @@ fn tell_uploads_of<R: Records>(
     ensures value { IfOk result (λ outcome. outcome
         ≡ Outcome.Told (documents.uploads name.now asked (uploads_told asked (R.catalogue records.old) name.now))) }
     ensures same { R.catalogue records.new ≡ R.catalogue records.old }
+    ensures stays { StaysKnown R.leaves_one_of records.old records.new }
 {
     let kept = name.copy()?;
     let page = list_uploads(records, alloc, name, &asked)?;

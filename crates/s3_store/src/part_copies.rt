@@ -2,6 +2,7 @@
 ghost use Rattle.std.specs.Prelude.{◌≡◌, ◌+◌, ℕ, true, false, min, drop, take, ◌++◌, is_some, is_ok, IfOk, OnErr, IsTrue};
 ghost use Rattle.md5.specs.Md5.{md5};
 ghost use Rattle.s3_records.specs.Catalogue.{has_bucket};
+ghost use Rattle.s3_records.specs.Leaving.{StaysKnown};
 ghost use Rattle.s3_records.specs.OpenUploads.{upload_at};
 ghost use Rattle.s3_machine.specs.declared.rules.Rules.{Rules};
 ghost use Rattle.s3_machine.specs.Effects.{is_refused};
@@ -42,6 +43,7 @@ pub(crate) fn copy_part<R: Records>(
     ensures memory { OnErr result (R.is_in_memory ≡ true → (rules : Rules) (n : ℕ)
         → is_refused (upload_step rules (R.catalogue records.old) n moment bucket.now key.now id (UploadCommand.CopyPart part copy)).1
         ≡ false) }
+    ensures stays { StaysKnown R.leaves_one_of records.old records.new }
 {
     let PartCopy { source, range } = copy;
     let found = find_for_part(records, alloc, bucket, key, id, &source, range);
@@ -69,6 +71,7 @@ fn find_for_part<R: Records>(
     ensures memory { OnErr result (R.is_in_memory ≡ true
         → is_ok (part_source (upload_at (R.catalogue records.old) bucket.now key.now id) (source_in (R.catalogue records.old) source.now range))
         ≡ true) }
+    ensures stays { StaysKnown R.leaves_one_of records.old records.new }
 {
     if !records.has_upload(alloc, bucket, key, id)? {
         return Ok(Err(refusal_of(Code::NoSuchUpload)));
@@ -93,6 +96,7 @@ fn put_found<R: Records>(
     ensures ok { IfOk result (λ outcome.
         part_step (R.catalogue records.old) moment bucket.now key.now id part range found ≡ (R.catalogue records.new, outcome)) }
     ensures err { OnErr result (R.catalogue records.new ≡ R.catalogue records.old) }
+    ensures stays { StaysKnown R.leaves_one_of records.old records.new }
 {
     let source = found.shown;
     let made = part_of(range, found.stored, moment);

@@ -4,6 +4,7 @@ ghost use Rattle.s3_versions.specs.declared.version.Data.{Data};
 ghost use Rattle.s3_versions.specs.declared.version.Version.{Version};
 ghost use Rattle.s3_versions.specs.Rules.{asked_for, judged, pick, stored};
 ghost use Rattle.s3_records.specs.Catalogue.{versions_of};
+ghost use Rattle.s3_records.specs.Leaving.{StaysKnown};
 ghost use Rattle.s3_machine.specs.Step.{shown_in, found_in};
 ghost use Rattle.s3_store.specs.Steps.{read_as_found};
 
@@ -39,6 +40,7 @@ pub(crate) fn look<R: Records>(
     ensures same { R.catalogue records.new ≡ R.catalogue records.old }
     ensures memory { OnErr result (R.is_in_memory ≡ true
         → option_and_then stored (asked_for asked (versions_of (R.catalogue records.old) bucket.now key.now)) ≢ None) }
+    ensures stays { StaysKnown R.leaves_one_of records.old records.new }
 {
     let found = records.version(alloc, bucket, key, asked)?;
     Ok(read(versioning, asked, found))

@@ -1,6 +1,7 @@
 //! Where copies are from.
 ghost use Rattle.std.specs.Prelude.{◌≡◌, true, false, IfOk, OnErr, IsTrue, is_ok};
 ghost use Rattle.s3_records.specs.Catalogue.{has_bucket, versioning_of};
+ghost use Rattle.s3_records.specs.Leaving.{StaysKnown};
 ghost use Rattle.s3_machine.specs.Step as steps;
 ghost use Rattle.s3_store.specs.Steps.{facts_for_copy, source_in, source_judged};
 
@@ -26,6 +27,7 @@ pub(crate) fn find_source<R: Records>(
     ensures same { R.catalogue records.new ≡ R.catalogue records.old }
     ensures memory { OnErr result (R.is_in_memory ≡ true
         → is_ok (source_in (R.catalogue records.old) source.now range) ≡ true) }
+    ensures stays { StaysKnown R.leaves_one_of records.old records.new }
 {
     match records.bucket(alloc, &source.bucket)? {
         None => Ok(Err(refusal_of(Code::NoSuchBucket))),
@@ -48,6 +50,7 @@ fn find_in_bucket<R: Records>(
     ensures same { R.catalogue records.new ≡ R.catalogue records.old }
     ensures memory { OnErr result (R.is_in_memory ≡ true
         → is_ok (source_in (R.catalogue records.old) source.now range) ≡ true) }
+    ensures stays { StaysKnown R.leaves_one_of records.old records.new }
 {
     let facts = records.facts(alloc, &source.bucket, &source.key, source.version)?;
     match source_judged(facts, &source.conditions, range) {

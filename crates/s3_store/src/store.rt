@@ -1,9 +1,11 @@
 //! The store.
-ghost use Rattle.std.specs.Prelude.{◌≡◌, ◌≢◌, [], true, false, IfOk, OnOk, OnErr, IsTrue};
+ghost use Rattle.std.specs.Prelude.{◌≡◌, ◌≢◌, List, [], ◌∷◌, true, false, IfOk, OnOk, OnErr, IsTrue};
 ghost use Rattle.s3_records.specs.Catalogue.{opening};
+ghost use Rattle.s3_records.specs.Leaving.{IsOneOf, StaysKnown};
 ghost use Rattle.s3_records.specs.Places.{AreBelow};
 ghost use Rattle.s3_store.specs.Steps.{opened, after_step, outcome_of};
 ghost use Rattle.s3_machine.specs.Effects.{is_refused, takes_room};
+ghost use Rattle.s3_machine.specs.Step.{State};
 
 use crate::take::take;
 use s3_bodies::Body;
@@ -15,8 +17,9 @@ use s3_terms::NoMemory;
 use std::alloc::Global;
 use std::marker::Model;
 
-/// Buckets, with their versions and open uploads and the bytes of these. Contracts see a store as its state and the
-/// number of the next entry. Its type keeps that this number is above those of the entries that made the versions.
+/// Buckets, with their versions and open uploads and the bytes of these. Contracts see where a store stands, which is its state
+/// and the number of the next entry, and the records that it has, of which `Records` tells what a crash leaves. Its type keeps
+/// that this number is above those of the entries that made the versions.
 #[derive(Drop)]
 pub struct Store<R: Records> {
     records: R,
@@ -25,13 +28,13 @@ pub struct Store<R: Records> {
 
 impl<R: Records> Model for Store<R> {
     ghost use Rattle.s3_records.specs.Places.{AreBelow};
-    ghost use Rattle.s3_store.specs.Steps.{Standing, coded_standing};
+    ghost use Rattle.s3_store.specs.Stored.{Stored, coded_stored};
 
-    ghost Value = { Standing };
+    ghost Value = { Stored R };
 
-    ghost coded = { coded_standing };
+    ghost coded = { coded_stored R.code };
 
-    ghost view = { λ store. record { state = R.catalogue store.records; number = store.number } };
+    ghost view = { λ store. record { standing = record { state = R.catalogue store.records; number = store.number }; records = store.records } };
 
     ghost invariant = { λ store. AreBelow store.number (R.catalogue store.records) };
 }
@@ -41,7 +44,8 @@ impl<R: Records> Store<R> {
     /// the versions there. It takes no memory.
     pub fn over(records: R, number: u64) -> Store<R>
         requires below { AreBelow number (R.catalogue records) }
-        ensures { result ≡ record { state = R.catalogue records; number = number } }
+        ensures standing { result.standing ≡ record { state = R.catalogue records; number = number } }
+        ensures records { result.records ≡ records }
     {
         Store { records, number }
     }
@@ -55,7 +59,7 @@ impl Store<MapRecords> {
     ///
     /// `NoMemory` where there is no memory for the buckets. It comes only where there is a name.
     pub fn open(alloc: Global, buckets: &[BucketName]) -> Result<Store<MapRecords>, NoMemory>
-        ensures value { IfOk result (λ store. store ≡ opened (opening buckets.now)) }
+        ensures value { IfOk result (λ store. store.standing ≡ opened (opening buckets.now)) }
         ensures memory { OnErr result (buckets.now ≢ []) }
     {
         numbers_stay_below::<Body>();
@@ -67,7 +71,7 @@ impl Store<MapRecords> {
 impl<R: Records + Drop> Store<R> {
     /// The number of the next entry: how many commands the store has answered.
     pub fn number(&self) -> u64
-        ensures { result ≡ self.now.number }
+        ensures { result ≡ self.now.standing.number }
     {
         self.number
     }
@@ -82,7 +86,7 @@ impl<R: Records + Drop> Store<R> {
     ///
     /// # Errors
     ///
-    /// `NoMemory` leaves the store as it was; the command is dropped. It comes where memory runs out, and where the
+    /// `NoMemory` leaves the store where it stood; the command is dropped. It comes where memory runs out, and where the
     /// numbers are used up, after 2^64 - 1 commands. If the records are in memory and numbers are left, it comes only
     /// for a command that isn't refused and takes room.
     pub fn apply(
@@ -92,14 +96,15 @@ impl<R: Records + Drop> Store<R> {
         command: Command,
         moment: Moment,
     ) -> Result<Answer, NoMemory>
-        ensures state { OnOk result (self.new ≡ after_step rules.now self.old moment command) }
+        ensures state { OnOk result (self.new.standing ≡ after_step rules.now self.old.standing moment command) }
         ensures answer { IfOk result (λ answer. answer
-            ≡ record { number = self.old.number; outcome = outcome_of rules.now self.old moment command }) }
-        ensures err { OnErr result (self.new ≡ self.old) }
-        ensures memory { OnErr result (R.is_in_memory ≡ true → self.old.number ≢ 18446744073709551615
-            → is_refused (outcome_of rules.now self.old moment command) ≡ false) }
-        ensures room { OnErr result (R.is_in_memory ≡ true → self.old.number ≢ 18446744073709551615
-            → IsTrue (takes_room self.old.state command)) }
+            ≡ record { number = self.old.standing.number; outcome = outcome_of rules.now self.old.standing moment command }) }
+        ensures err { OnErr result (self.new.standing ≡ self.old.standing) }
+        ensures memory { OnErr result (R.is_in_memory ≡ true → self.old.standing.number ≢ 18446744073709551615
+            → is_refused (outcome_of rules.now self.old.standing moment command) ≡ false) }
+        ensures room { OnErr result (R.is_in_memory ≡ true → self.old.standing.number ≢ 18446744073709551615
+            → IsTrue (takes_room self.old.standing.state command)) }
+        ensures stays { StaysKnown R.leaves_one_of self.old.records self.new.records }
     {
         steps_keep();
         let number = self.number;
@@ -116,11 +121,23 @@ impl<R: Records + Drop> Store<R> {
     ///
     /// # Errors
     ///
-    /// Those of `Records::commit`. The store is as it was. Records in memory have no error here.
+    /// Those of `Records::commit`. The store stands where it stood. Records in memory have no error here.
     pub fn commit(&mut self) -> Result<(), CommitError>
-        ensures same { self.new ≡ self.old }
+        ensures settled { OnOk result (R.leaves_one_of self.new.records (self.new.standing.state ∷ [])) }
+        ensures in_doubt { (known : List State) → R.leaves_one_of self.old.records known
+            → R.leaves_one_of self.new.records (self.old.standing.state ∷ known) }
+        ensures same { self.new.standing ≡ self.old.standing }
         ensures memory { OnErr result (R.is_in_memory ≡ false) }
     {
         self.records.commit()
+    }
+
+    /// That what a crash leaves of the records is one of the states of which that is known, as `Records::outlive_crashes` says. It
+    /// costs nothing.
+    pub fn outlive_crashes(&self)
+        ensures { (known : List State) (left : State)
+            → R.leaves_one_of self.now.records known → R.leaves self.now.records left → IsOneOf left known }
+    {
+        self.records.outlive_crashes();
     }
 }

@@ -1,5 +1,6 @@
 //! What every command does.
 ghost use Rattle.std.specs.Prelude.{◌≡◌, true, false, IfOk, OnErr, IsTrue};
+ghost use Rattle.s3_records.specs.Leaving.{StaysKnown};
 ghost use Rattle.s3_records.specs.Places.{AreBelow};
 ghost use Rattle.s3_machine.specs.Effects.{is_refused, takes_room};
 ghost use Rattle.s3_machine.specs.Step.{step};
@@ -33,6 +34,7 @@ pub(crate) fn take<R: Records>(
     ensures memory { OnErr result (R.is_in_memory ≡ true
         → is_refused (step rules.now (R.catalogue records.old) number moment command).1 ≡ false) }
     ensures room { OnErr result (R.is_in_memory ≡ true → IsTrue (takes_room (R.catalogue records.old) command)) }
+    ensures stays { StaysKnown R.leaves_one_of records.old records.new }
 {
     match command {
         Command::ListBuckets => tell_buckets(records, alloc),

@@ -4,6 +4,7 @@ ghost use Rattle.s3_bodies.specs.Payload.{tag_of};
 ghost use Rattle.s3_uploads.specs.Parts.{part_sent};
 ghost use Rattle.s3_records.specs.Catalogue.{has_bucket};
 ghost use Rattle.s3_records.specs.Changes.{changed, PartPut};
+ghost use Rattle.s3_records.specs.Leaving.{StaysKnown};
 ghost use Rattle.s3_records.specs.OpenUploads.{parts_at, upload_at};
 ghost use Rattle.s3_records.specs.Places.{AreBelow};
 ghost use Rattle.s3_listings.specs.Parts.{parts_page};
@@ -45,6 +46,7 @@ pub(crate) fn begin<R: Records>(
     ensures err { OnErr result (R.catalogue records.new ≡ R.catalogue records.old) }
     ensures memory { OnErr result (R.is_in_memory ≡ true
         → is_refused (key_step (R.catalogue records.old) number moment bucket.now key (KeyCommand.Begin asked)).1 ≡ false) }
+    ensures stays { StaysKnown R.leaves_one_of records.old records.new }
 {
     let id = UploadId::of(number);
     let document = begun_document(alloc, bucket, &key, id)?;
@@ -93,6 +95,7 @@ pub(crate) fn take_on_upload<R: Records>(
     ensures memory { OnErr result (R.is_in_memory ≡ true
         → is_refused (step rules.now (R.catalogue records.old) number moment (Command.Upload bucket.now key id asked)).1 ≡ false) }
     ensures room { OnErr result (R.is_in_memory ≡ true → IsTrue (takes_room (R.catalogue records.old) (Command.Upload bucket.now key id asked))) }
+    ensures stays { StaysKnown R.leaves_one_of records.old records.new }
 {
     match records.bucket(alloc, bucket) {
         Ok(Some(facts)) => take_in_bucket(
@@ -144,6 +147,7 @@ fn take_in_bucket<R: Records>(
     ensures memory { OnErr result (R.is_in_memory ≡ true
         → is_refused (upload_step rules.now (R.catalogue records.old) number moment bucket.now key id asked).1 ≡ false) }
     ensures room { OnErr result (R.is_in_memory ≡ true → IsTrue (takes_room_in_upload asked)) }
+    ensures stays { StaysKnown R.leaves_one_of records.old records.new }
 {
     match asked {
         UploadCommand::PutPart {
@@ -181,6 +185,7 @@ fn put_part<R: Records>(
     ensures memory { OnErr result (R.is_in_memory ≡ true → (rules : Rules) (n : ℕ)
         → is_refused (upload_step rules (R.catalogue records.old) n moment bucket.now key.now id (UploadCommand.PutPart part payload)).1
         ≡ false) }
+    ensures stays { StaysKnown R.leaves_one_of records.old records.new }
 {
     match records.has_upload(alloc, bucket, key, id) {
         Ok(true) => send_part(records, alloc, bucket, key, id, part, payload, moment),
@@ -212,6 +217,7 @@ fn send_part<R: Records>(
         ≡ changed (R.catalogue records.old) bucket.now (PartPut key.now id part (part_sent moment payload))) }
     ensures outcome { IfOk result (λ outcome. outcome ≡ Outcome.PartPut (tag_of payload)) }
     ensures err { OnErr result (R.catalogue records.new ≡ R.catalogue records.old) }
+    ensures stays { StaysKnown R.leaves_one_of records.old records.new }
 {
     let tag = payload.tag();
     let sent = Part::sent(moment, payload)?;
@@ -234,6 +240,7 @@ fn abort<R: Records>(
         → upload_step rules (R.catalogue records.old) n t bucket.now key.now id UploadCommand.Abort ≡ (R.catalogue records.new, outcome)) }
     ensures err { OnErr result (R.catalogue records.new ≡ R.catalogue records.old) }
     ensures memory { OnErr result (R.is_in_memory ≡ false) }
+    ensures stays { StaysKnown R.leaves_one_of records.old records.new }
 {
     if !records.has_upload(alloc, bucket, key, id)? {
         return Ok(refused(Code::NoSuchUpload));
@@ -259,6 +266,7 @@ fn tell_parts<R: Records>(
     ensures same { R.catalogue records.new ≡ R.catalogue records.old }
     ensures memory { OnErr result (R.is_in_memory ≡ true → (rules : Rules) (n t : ℕ)
         → is_refused (upload_step rules (R.catalogue records.old) n t bucket.now key id (UploadCommand.ListParts asked)).1 ≡ false) }
+    ensures stays { StaysKnown R.leaves_one_of records.old records.new }
 {
     if !records.has_upload(alloc, bucket, &key, id)? {
         return Ok(refused(Code::NoSuchUpload));
@@ -279,6 +287,7 @@ fn parts_told_of<R: Records>(
     ensures value { IfOk result (λ document. document
         ≡ documents.parts bucket.now key id asked (parts_page asked (parts_at (R.catalogue records.old) bucket.now key id))) }
     ensures same { R.catalogue records.new ≡ R.catalogue records.old }
+    ensures stays { StaysKnown R.leaves_one_of records.old records.new }
 {
     let name = bucket.copy()?;
     let page = list_parts(records, alloc, bucket, &key, id, &asked)?;

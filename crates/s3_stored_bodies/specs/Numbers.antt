@@ -26,3 +26,7 @@ named_less numbers uses number = uses number - times number numbers
 -- under the numbers that are still named stands what stood there
 abbrev pub KeepsNamed : (ℕ → ℕ) → Contents → Contents → Type 0
 KeepsNamed uses old new = (number : ℕ) → 0 < uses number → map.get new number ≡ map.get old number
+
+-- what outlived a crash as bytes under a number, does so still
+abbrev pub StillOutlive : {B : Type 0} → (B → ℕ → List ℕ → Type 0) → B → B → Type 0
+StillOutlive outlives old new = (number : ℕ) (bytes : List ℕ) → outlives old number bytes → outlives new number bytes

@@ -1,7 +1,7 @@
 //! Several numbers at once, whatever keeps the bodies.
 ghost use Rattle.std.specs.Prelude.{◌≡◌, ℕ, ◌<◌, ◌≤◌, true, All, length, map as each, IfOk, OnErr};
 ghost use Rattle.std.specs.List.{concat, flat_map};
-ghost use Rattle.s3_stored_bodies.specs.Numbers.{bytes_under, times, named_more, named_less, KeepsNamed};
+ghost use Rattle.s3_stored_bodies.specs.Numbers.{bytes_under, times, named_more, named_less, KeepsNamed, StillOutlive};
 
 use crate::stored_bodies::StoredBodies;
 use s3_bodies::Body;
@@ -14,6 +14,7 @@ pub fn give_up_all<B: StoredBodies>(bodies: &mut B, numbers: &[u64])
     requires { (number : ℕ) → times number numbers.now ≤ B.uses bodies.old number }
     ensures uses { B.uses bodies.new ≡ named_less numbers.now (B.uses bodies.old) }
     ensures contents { KeepsNamed (B.uses bodies.new) (B.contents bodies.old) (B.contents bodies.new) }
+    ensures outlives { StillOutlive B.outlives bodies.old bodies.new }
 {
     for number in numbers {
         bodies.give_up(*number);
@@ -27,6 +28,7 @@ pub fn share_all<B: StoredBodies>(bodies: &mut B, numbers: &[u64]) -> Result<(),
     ensures contents { B.contents bodies.new ≡ B.contents bodies.old }
     ensures uses { IfOk result (λ _. B.uses bodies.new ≡ named_more numbers.now (B.uses bodies.old)) }
     ensures err_uses { OnErr result (B.uses bodies.new ≡ B.uses bodies.old) }
+    ensures outlives { StillOutlive B.outlives bodies.old bodies.new }
 {
     for (done, number) in numbers.iter().enumerate() {
         if let Err(failed) = bodies.share(*number) {
@@ -49,6 +51,7 @@ pub fn joined<B: StoredBodies>(
     ensures value { IfOk result (λ body. body ≡ flat_map (bytes_under (B.contents bodies.old)) numbers.now) }
     ensures contents { B.contents bodies.new ≡ B.contents bodies.old }
     ensures uses { B.uses bodies.new ≡ B.uses bodies.old }
+    ensures outlives { StillOutlive B.outlives bodies.old bodies.new }
     ensures memory { OnErr result (B.is_in_memory ≡ true → length numbers.now ≤ 1
         → 0 < length (flat_map (bytes_under (B.contents bodies.old)) numbers.now)) }
 {
@@ -69,6 +72,7 @@ fn join_several<B: StoredBodies>(
     ensures value { IfOk result (λ body. body ≡ flat_map (bytes_under (B.contents bodies.old)) numbers.now) }
     ensures contents { B.contents bodies.new ≡ B.contents bodies.old }
     ensures uses { B.uses bodies.new ≡ B.uses bodies.old }
+    ensures outlives { StillOutlive B.outlives bodies.old bodies.new }
 {
     let parts = bodies_under(bodies, alloc, numbers)?;
     join(alloc, parts.as_slice())
@@ -84,6 +88,7 @@ fn bodies_under<B: StoredBodies>(
     ensures value { IfOk result (λ parts. parts.items ≡ each (bytes_under (B.contents bodies.old)) numbers.now) }
     ensures contents { B.contents bodies.new ≡ B.contents bodies.old }
     ensures uses { B.uses bodies.new ≡ B.uses bodies.old }
+    ensures outlives { StillOutlive B.outlives bodies.old bodies.new }
 {
     let mut parts = Vec::with_capacity(alloc, numbers.len())?;
     for number in numbers {

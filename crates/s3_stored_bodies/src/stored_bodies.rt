@@ -1,7 +1,7 @@
 //! What every keeper of bodies promises.
 ghost use Rattle.std.specs.Prelude.{◌≡◌, ◌↔◌, ℕ, ◌<◌, ◌≤◌, ◌^◌, List, [], ◌∷◌, Bool, true, Some, None, length, IfOk, OnOk, OnErr};
 ghost use Rattle.std.specs.FinMap as map;
-ghost use Rattle.s3_stored_bodies.specs.Numbers.{Contents, bytes_under, named_more, named_less, KeepsNamed};
+ghost use Rattle.s3_stored_bodies.specs.Numbers.{Contents, bytes_under, named_more, named_less, KeepsNamed, StillOutlive};
 
 use s3_bodies::Body;
 use s3_terms::NoMemory;
@@ -50,7 +50,7 @@ pub trait StoredBodies {
     /// clause tells when it is so.
     fn settle(&mut self) -> Result<(), NotSettled>
         ensures settled { OnOk result ((number : ℕ) (bytes : List ℕ) → map.get (contents self.new) number ≡ Some bytes → outlives self.new number bytes) }
-        ensures outlives { (number : ℕ) (bytes : List ℕ) → outlives self.old number bytes → outlives self.new number bytes }
+        ensures outlives { StillOutlive outlives self.old self.new }
         ensures contents { contents self.new ≡ contents self.old }
         ensures uses { uses self.new ≡ uses self.old };
 
@@ -69,7 +69,7 @@ pub trait StoredBodies {
         ensures below { IfOk result (λ number. number < 2 ^ 63) }
         ensures err { OnErr result (contents self.new ≡ contents self.old) }
         ensures err_uses { OnErr result (uses self.new ≡ uses self.old) }
-        ensures outlives { (n : ℕ) (bytes : List ℕ) → outlives self.old n bytes → outlives self.new n bytes };
+        ensures outlives { StillOutlive outlives self.old self.new };
 
     /// Lets one more row name a number that is named already. A keeper in memory has an error only where 2^63 rows name
     /// it.
@@ -79,7 +79,7 @@ pub trait StoredBodies {
         ensures uses { IfOk result (λ _. uses self.new ≡ named_more (number ∷ []) (uses self.old)) }
         ensures err_uses { OnErr result (uses self.new ≡ uses self.old) }
         ensures memory { OnErr result (is_in_memory ≡ true → 2 ^ 63 ≤ uses self.old number) }
-        ensures outlives { (n : ℕ) (bytes : List ℕ) → outlives self.old n bytes → outlives self.new n bytes };
+        ensures outlives { StillOutlive outlives self.old self.new };
 
     /// Takes back that one row names a number. With the last one the body goes; its memory goes with the last copy of it
     /// that somebody has. It takes no memory. Where the body was settled it still outlives a crash, until it is let go.
@@ -87,7 +87,7 @@ pub trait StoredBodies {
         requires { 0 < uses self.old number }
         ensures uses { uses self.new ≡ named_less (number ∷ []) (uses self.old) }
         ensures contents { KeepsNamed (uses self.new) (contents self.old) (contents self.new) }
-        ensures outlives { (n : ℕ) (bytes : List ℕ) → outlives self.old n bytes → outlives self.new n bytes };
+        ensures outlives { StillOutlive outlives self.old self.new };
 
     /// The body under a number that is named. Its bytes are shared and not copied, where the keeper has them in memory. A
     /// keeper in memory has an error only where there are any bytes.
@@ -97,7 +97,7 @@ pub trait StoredBodies {
         ensures contents { contents self.new ≡ contents self.old }
         ensures uses { uses self.new ≡ uses self.old }
         ensures memory { OnErr result (is_in_memory ≡ true → 0 < length (bytes_under (contents self.old) number)) }
-        ensures outlives { (n : ℕ) (bytes : List ℕ) → outlives self.old n bytes → outlives self.new n bytes };
+        ensures outlives { StillOutlive outlives self.old self.new };
 
     /// How many bytes the body under a number has that is named.
     fn size(&self, number: u64) -> u64

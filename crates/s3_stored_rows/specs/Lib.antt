@@ -1,4 +1,5 @@
 pub mod Changes
+pub mod Leaving
 pub mod Queries
 pub mod Bodies
 pub mod Rowids

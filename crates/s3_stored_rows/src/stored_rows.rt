@@ -2,6 +2,7 @@
 ghost use Rattle.std.specs.Prelude.{◌≡◌, ◌⊎◌, map, take, option_map, slice_get, IfOk, OnOk, OnErr};
 ghost use Rattle.s3_rows.specs.Columns.{Tables};
 ghost use Rattle.s3_stored_rows.specs.Changes.{after_all, bucket_columns, version_columns, upload_columns, part_columns, store_columns};
+ghost use Rattle.s3_stored_rows.specs.Leaving.{LeavesNoMore};
 ghost use Rattle.s3_stored_rows.specs.Queries as spec;
 ghost use Rattle.s3_stored_rows.specs.Unique.{AreUnique};
 
@@ -45,25 +46,25 @@ pub trait StoredRows {
     fn apply(&mut self, changes: &[Change]) -> Result<(), NoMemory>
         ensures ok { OnOk result (tables self.new ≡ after_all changes.now (tables self.old)) }
         ensures err { OnErr result (tables self.new ≡ tables self.old) }
-        ensures stays { (t : Tables) → leaves self.new t → leaves self.old t };
+        ensures stays { LeavesNoMore leaves self.old self.new };
 
     /// The bucket of a name.
     fn bucket(&mut self, name: &[u8]) -> Result<Option<StoredBucket>, NoMemory>
         ensures value { IfOk result (λ found. option_map bucket_columns found ≡ spec.bucket_named name.now (tables self.old)) }
         ensures same { tables self.new ≡ tables self.old }
-        ensures stays { (t : Tables) → leaves self.new t → leaves self.old t };
+        ensures stays { LeavesNoMore leaves self.old self.new };
 
     /// All buckets, by name in the order of bytes.
     fn buckets(&mut self, alloc: Global) -> Result<Vec<StoredBucket>, NoMemory>
         ensures value { IfOk result (λ all. map bucket_columns all.items ≡ spec.buckets_by_name (tables self.old)) }
         ensures same { tables self.new ≡ tables self.old }
-        ensures stays { (t : Tables) → leaves self.new t → leaves self.old t };
+        ensures stays { LeavesNoMore leaves self.old self.new };
 
     /// The newest version under a key.
     fn newest(&mut self, bucket: &[u8], key: &[u8]) -> Result<Option<StoredVersion>, NoMemory>
         ensures value { IfOk result (λ found. option_map version_columns found ≡ spec.newest_version bucket.now key.now (tables self.old)) }
         ensures same { tables self.new ≡ tables self.old }
-        ensures stays { (t : Tables) → leaves self.new t → leaves self.old t };
+        ensures stays { LeavesNoMore leaves self.old self.new };
 
     /// The version of an id under a key.
     fn version(
@@ -74,7 +75,7 @@ pub trait StoredRows {
     ) -> Result<Option<StoredVersion>, NoMemory>
         ensures value { IfOk result (λ found. option_map version_columns found ≡ spec.version_of_id bucket.now key.now id (tables self.old)) }
         ensures same { tables self.new ≡ tables self.old }
-        ensures stays { (t : Tables) → leaves self.new t → leaves self.old t };
+        ensures stays { LeavesNoMore leaves self.old self.new };
 
     /// The versions under a key whose numbers are below one, newest first, and at most so many.
     fn versions_below(
@@ -87,7 +88,7 @@ pub trait StoredRows {
     ) -> Result<Vec<StoredVersion>, NoMemory>
         ensures value { IfOk result (λ all. map version_columns all.items ≡ take most (spec.versions_below bucket.now key.now number (tables self.old))) }
         ensures same { tables self.new ≡ tables self.old }
-        ensures stays { (t : Tables) → leaves self.new t → leaves self.old t };
+        ensures stays { LeavesNoMore leaves self.old self.new };
 
     /// The versions of a bucket from a key on, by key in the order of bytes and newest first under one key, and at most so many.
     fn versions_from(
@@ -99,7 +100,7 @@ pub trait StoredRows {
     ) -> Result<Vec<StoredVersion>, NoMemory>
         ensures value { IfOk result (λ all. map version_columns all.items ≡ take most (spec.versions_from bucket.now key.now (tables self.old))) }
         ensures same { tables self.new ≡ tables self.old }
-        ensures stays { (t : Tables) → leaves self.new t → leaves self.old t };
+        ensures stays { LeavesNoMore leaves self.old self.new };
 
     /// The versions of a bucket behind a key, in the same order, and at most so many.
     fn versions_behind(
@@ -111,13 +112,13 @@ pub trait StoredRows {
     ) -> Result<Vec<StoredVersion>, NoMemory>
         ensures value { IfOk result (λ all. map version_columns all.items ≡ take most (spec.versions_behind bucket.now key.now (tables self.old))) }
         ensures same { tables self.new ≡ tables self.old }
-        ensures stays { (t : Tables) → leaves self.new t → leaves self.old t };
+        ensures stays { LeavesNoMore leaves self.old self.new };
 
     /// Whether there is a version in a bucket.
     fn has_versions(&mut self, bucket: &[u8]) -> Result<bool, NoMemory>
         ensures value { IfOk result (λ found. found ≡ spec.has_versions bucket.now (tables self.old)) }
         ensures same { tables self.new ≡ tables self.old }
-        ensures stays { (t : Tables) → leaves self.new t → leaves self.old t };
+        ensures stays { LeavesNoMore leaves self.old self.new };
 
     /// The upload of an id to a key.
     fn upload(
@@ -128,7 +129,7 @@ pub trait StoredRows {
     ) -> Result<Option<StoredUpload>, NoMemory>
         ensures value { IfOk result (λ found. option_map upload_columns found ≡ spec.upload_of_id bucket.now key.now id (tables self.old)) }
         ensures same { tables self.new ≡ tables self.old }
-        ensures stays { (t : Tables) → leaves self.new t → leaves self.old t };
+        ensures stays { LeavesNoMore leaves self.old self.new };
 
     /// The uploads in a bucket from a key on, by key in the order of bytes and by id, and at most so many.
     fn uploads_from(
@@ -140,7 +141,7 @@ pub trait StoredRows {
     ) -> Result<Vec<StoredUpload>, NoMemory>
         ensures value { IfOk result (λ all. map upload_columns all.items ≡ take most (spec.uploads_from bucket.now key.now (tables self.old))) }
         ensures same { tables self.new ≡ tables self.old }
-        ensures stays { (t : Tables) → leaves self.new t → leaves self.old t };
+        ensures stays { LeavesNoMore leaves self.old self.new };
 
     /// The uploads in a bucket behind a key, in the same order, and at most so many.
     fn uploads_behind(
@@ -152,7 +153,7 @@ pub trait StoredRows {
     ) -> Result<Vec<StoredUpload>, NoMemory>
         ensures value { IfOk result (λ all. map upload_columns all.items ≡ take most (spec.uploads_behind bucket.now key.now (tables self.old))) }
         ensures same { tables self.new ≡ tables self.old }
-        ensures stays { (t : Tables) → leaves self.new t → leaves self.old t };
+        ensures stays { LeavesNoMore leaves self.old self.new };
 
     /// The uploads to a key whose ids are above one, by id, and at most so many.
     fn uploads_above(
@@ -165,19 +166,19 @@ pub trait StoredRows {
     ) -> Result<Vec<StoredUpload>, NoMemory>
         ensures value { IfOk result (λ all. map upload_columns all.items ≡ take most (spec.uploads_above bucket.now key.now id (tables self.old))) }
         ensures same { tables self.new ≡ tables self.old }
-        ensures stays { (t : Tables) → leaves self.new t → leaves self.old t };
+        ensures stays { LeavesNoMore leaves self.old self.new };
 
     /// Whether there is an upload in a bucket.
     fn has_uploads(&mut self, bucket: &[u8]) -> Result<bool, NoMemory>
         ensures value { IfOk result (λ found. found ≡ spec.has_uploads bucket.now (tables self.old)) }
         ensures same { tables self.new ≡ tables self.old }
-        ensures stays { (t : Tables) → leaves self.new t → leaves self.old t };
+        ensures stays { LeavesNoMore leaves self.old self.new };
 
     /// The part of a number of the upload in a row.
     fn part(&mut self, upload: i64, part: i64) -> Result<Option<StoredPart>, NoMemory>
         ensures value { IfOk result (λ found. option_map part_columns found ≡ spec.part_of_number upload part (tables self.old)) }
         ensures same { tables self.new ≡ tables self.old }
-        ensures stays { (t : Tables) → leaves self.new t → leaves self.old t };
+        ensures stays { LeavesNoMore leaves self.old self.new };
 
     /// The parts of the upload in a row whose numbers are above one, by number, and at most so many.
     fn parts_above(
@@ -189,11 +190,11 @@ pub trait StoredRows {
     ) -> Result<Vec<StoredPart>, NoMemory>
         ensures value { IfOk result (λ all. map part_columns all.items ≡ take most (spec.parts_above upload part (tables self.old))) }
         ensures same { tables self.new ≡ tables self.old }
-        ensures stays { (t : Tables) → leaves self.new t → leaves self.old t };
+        ensures stays { LeavesNoMore leaves self.old self.new };
 
     /// The row of `store`.
     fn store(&mut self) -> Result<Option<StoreNumbers>, NoMemory>
         ensures value { IfOk result (λ found. option_map store_columns found ≡ slice_get (tables self.old).store 0) }
         ensures same { tables self.new ≡ tables self.old }
-        ensures stays { (t : Tables) → leaves self.new t → leaves self.old t };
+        ensures stays { LeavesNoMore leaves self.old self.new };
 }

@@ -1,6 +1,6 @@
 -- What is kept, as rows change and numbers of bodies come and go.
 use Rattle.std.proofs.Common.{◌≡◌, refl, sym, ap, subst, ◌∙◌, ℕ, ℤ, pos, ◌+◌, ◌<◌, ◌≤◌, cond, true, false, List, [], ◌∷◌, Option, Some, None, ◌↔◌, ◌+ℤ◌, arith}
-use Rattle.std.specs.Prelude.{int_lt, Bool, is_err, IsTrue, unwrap_or, Result, Ok, Err, OnOk, OnErr}
+use Rattle.std.specs.Prelude.{int_lt, IsTrue, unwrap_or, Result, Ok, Err, OnOk, OnErr}
 use Rattle.std.proofs.lemmas.Int.{ints}
 use Rattle.std.specs.Cmp.{nat_cmp_total, eq_by_cmp_equiv}
 use Rattle.std.specs.FinMap.{get, insert, get-insert}
@@ -10,7 +10,6 @@ use Rattle.sqlite_keyed.specs.Rules.{AllPass}
 use Rattle.std.proofs.lemmas.List.Elements.{All-from_recursion, recursion_from_All}
 use Rattle.s3_stored_bodies.specs.Numbers.{Contents, bytes_under, times, named_more, named_less, KeepsNamed}
 use Rattle.s3_stored_bodies.proofs.NumberLemmas.{named_less-none}
-use Rattle.s3_records.specs.Catalogue.{Catalogue}
 use Rattle.s3_records.specs.Changes.{Change, changed}
 use Rattle.s3_rows.specs.Columns.{Tables}
 use Rattle.s3_rows.specs.Meaning.{catalogue_of}
@@ -19,7 +18,7 @@ use Rattle.s3_row_changes.specs.Trading.{Trades}
 use Rattle.s3_row_steps.specs.Steps.{AreKept, Steps}
 use Rattle.s3_stored_rows.specs.Rowids.{AreRowsBelow}
 use Rattle.s3_terms.specs.declared.memory.NoMemory.{NoMemory}
-use Rattle.s3_table_records.specs.Kept.{kept, IsKept, IsLeft, Changes, catalogue}
+use Rattle.s3_table_records.specs.Kept.{kept, IsKept, Changes, catalogue}
 use Rattle.s3_table_records.proofs.SameBytesLemmas.{same_catalogue}
 
 -- each number is counted as often as rows name it
@@ -65,36 +64,6 @@ module _ (c : Contents) (uses : ℕ → ℕ) (number : ℕ) (body : List ℕ) wh
 
   pub under_here : bytes_under (insert c number body) number ≡ body
   under_here = ap (λ found. unwrap_or found []) (get-insert nat_cmp_total c number body number ∙ ap (λ b. cond b (Some body) (get c number)) ((eq_by_cmp_equiv nat_cmp_total).refl number))
-
--- and over all that outlives a crash of bytes that stand under numbers
-outlived : (found left : Option (List ℕ)) → (found ≡ None → ⊥) → ((bytes : List ℕ) → found ≡ Some bytes → left ≡ Some bytes) → unwrap_or left [] ≡ unwrap_or found []
-outlived None left there stays = absurd (there refl)
-outlived (Some bytes) left there stays = ap (λ o. unwrap_or o []) (stays bytes refl)
-
-pub left_catalogue : (c d : Contents) (uses : ℕ → ℕ) (t : Tables) → AreNamed uses t → ((m : ℕ) → (uses m ≡ 0) ↔ (get c m ≡ None))
-    → ((m : ℕ) (bytes : List ℕ) → get c m ≡ Some bytes → get d m ≡ Some bytes) → catalogue_of (encoding d) t ≡ catalogue_of (encoding c) t
-left_catalogue c d uses t named there outlives =
-    same_catalogue c d t (λ n is. outlived (get c n) (get d n) (λ none. let nothing = (there n).1 none in omega (arith, named n)) (outlives n))
-
--- so what a crash leaves is the catalogue, where the rows are those that it leaves
-pub all_left : (rows : Tables → Type 0) (bodies : Contents → Type 0) (t : Tables) (c : Contents) (u : ℕ → ℕ) (next : ℤ) → IsKept (kept t c u next)
-    → ((m : ℕ) → (u m ≡ 0) ↔ (get c m ≡ None)) → ((d : Contents) → bodies d → (m : ℕ) (bytes : List ℕ) → get c m ≡ Some bytes → get d m ≡ Some bytes)
-    → ((s : Tables) → rows s → s ≡ t) → (left : Catalogue (List ℕ)) → IsLeft rows bodies left → left ≡ catalogue (kept t c u next)
-all_left rows bodies t c u next is there outlive settled left found =
-    found.means ∙ ap (catalogue_of (encoding found.contents)) (settled found.tables found.of_rows)
-    ∙ left_catalogue c found.contents u t is.named there (outlive found.contents found.of_bodies)
-
--- the same rows and counts of rows are still kept
-pub still_kept : (t s : Tables) (c d : Contents) (u v : ℕ → ℕ) (next : ℤ) → s ≡ t → v ≡ u → IsKept (kept t c u next) → IsKept (kept s d v next)
-still_kept t s c d u v next same uses is = record {
-  rows = subst (AreKept next) (sym same) is.rows;
-  named = λ n. ap (λ (f : ℕ → ℕ). f n) uses ∙ is.named n ∙ ap (λ t. times n (numbers_named t)) (sym same);
-}
-
--- what holds where a call answers no error, of one that did so
-pub where_ok : {X E A : Type 0} (result : Result X E) (failed : Bool) → failed ≡ is_err result → failed ≡ false → OnOk result A → A
-where_ok (Ok x) failed is unset holds = holds
-where_ok (Err error) failed is unset holds = absurd (cc (is, unset))
 
 -- ---- the next rowid grows
 

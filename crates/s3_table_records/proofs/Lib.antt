@@ -1,5 +1,6 @@
 pub mod SameBytesLemmas
 pub mod KeptLemmas
+pub mod LeavingLemmas
 pub mod AnyBytesLemmas
 pub mod DataLemmas
 pub mod CountedLemmas

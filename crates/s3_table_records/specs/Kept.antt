@@ -50,14 +50,6 @@ coded_parts {R} {B} rows bodies =
 abbrev pub kept_in : {R B : Type 0} → (R → Tables) → (B → Contents) → (B → ℕ → ℕ) → Parts R B → Kept
 kept_in tables contents uses parts = kept (tables parts.rows) (contents parts.bodies) (uses parts.bodies) parts.next
 
--- a catalogue that one may find who opens rows and bodies again after a crash, by what it may leave of the rows and of the bodies
-pub record IsLeft (rows : Tables → Type 0) (bodies : Contents → Type 0) (left : Catalogue (List ℕ)) : Type 0 where
-  pub tables : Tables
-  pub contents : Contents
-  pub of_rows : rows tables
-  pub of_bodies : bodies contents
-  pub means : left ≡ catalogue_of (encoding contents) tables
-
 -- what is kept is this change of the catalogue, or where an error is answered the catalogue as it was
 pub record Changes {X : Type 0} (old new : Kept) (bucket : List ℕ) (change : Change (List ℕ)) (result : Result X NoMemory) : Type 0 where
   pub kept : IsKept new

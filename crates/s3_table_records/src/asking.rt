@@ -9,6 +9,7 @@ ghost use Rattle.s3_rows.specs.ReadingLaws.{row_listed};
 ghost use Rattle.s3_stored_bodies.specs.Numbers.{Contents};
 ghost use Rattle.s3_stored_rows.specs.Bodies.{encoding};
 ghost use Rattle.s3_stored_rows.specs.Changes.{bucket_columns};
+ghost use Rattle.s3_stored_rows.specs.Leaving.{LeavesNoMore};
 ghost use Rattle.s3_row_steps.specs.Steps.{AreKept};
 
 use s3_names::{BucketName, Key, UploadId, VersionId};
@@ -29,6 +30,7 @@ pub(crate) fn bucket<R: StoredRows>(
     ensures value { (contents : Contents) → IfOk result (λ facts. facts ≡ facts_in (catalogue_of (encoding contents) (R.tables rows.old)) name.now) }
     ensures there { (contents : Contents) → IfOk result (λ facts. is_some facts ≡ has_bucket (catalogue_of (encoding contents) (R.tables rows.old)) name.now) }
     ensures same { R.tables rows.new ≡ R.tables rows.old }
+    ensures stays { LeavesNoMore R.leaves rows.old rows.new }
 {
     rows_tell_buckets();
     match rows.bucket(name.as_bytes())? {
@@ -48,6 +50,7 @@ pub(crate) fn buckets<R: StoredRows>(
     requires { AreSound (R.tables rows.old) }
     ensures value { (contents : Contents) → IfOk result (λ told. told.items ≡ listed_buckets (catalogue_of (encoding contents) (R.tables rows.old))) }
     ensures same { R.tables rows.new ≡ R.tables rows.old }
+    ensures stays { LeavesNoMore R.leaves rows.old rows.new }
 {
     rows_tell_buckets();
     let all = rows.buckets(alloc)?;
@@ -70,6 +73,7 @@ pub(crate) fn is_empty<R: StoredRows>(rows: &mut R, name: &BucketName) -> Result
     requires { AreSound (R.tables rows.old) }
     ensures value { (contents : Contents) → IfOk result (λ is_empty. is_empty ≡ is_empty_bucket (catalogue_of (encoding contents) (R.tables rows.old)) name.now) }
     ensures same { R.tables rows.new ≡ R.tables rows.old }
+    ensures stays { LeavesNoMore R.leaves rows.old rows.new }
 {
     rows_tell_buckets();
     let has_versions = rows.has_versions(name.as_bytes())?;
@@ -88,6 +92,7 @@ pub(crate) fn facts<R: StoredRows>(
     ensures value { (contents : Contents) → IfOk result (λ facts. facts
         ≡ facts_read (pick asked (versions_of (catalogue_of (encoding contents) (R.tables rows.old)) bucket.now key.now))) }
     ensures same { R.tables rows.new ≡ R.tables rows.old }
+    ensures stays { LeavesNoMore R.leaves rows.old rows.new }
 {
     let found = steps::found_version(rows, bucket, key, asked)?;
     facts_from(asked, found.as_ref())
@@ -103,6 +108,7 @@ pub(crate) fn has_upload<R: StoredRows>(
     requires kept { (next : ℤ) × AreKept next (R.tables rows.old) }
     ensures value { (contents : Contents) → IfOk result (λ there. there ≡ is_some (upload_at (catalogue_of (encoding contents) (R.tables rows.old)) bucket.now key.now id)) }
     ensures same { R.tables rows.new ≡ R.tables rows.old }
+    ensures stays { LeavesNoMore R.leaves rows.old rows.new }
 {
     rows_tell_uploads();
     let found = steps::found_upload_row(rows, bucket, key, id)?;

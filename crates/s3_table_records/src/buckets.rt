@@ -2,6 +2,7 @@
 ghost use Rattle.std.specs.Prelude.{◌≡◌, ℤ, pos, ◌+ℤ◌, false, IsTrue};
 ghost use Rattle.s3_records.specs.Catalogue.{has_bucket, is_empty_bucket};
 ghost use Rattle.s3_records.specs.Changes.{BucketAdded, BucketDropped, VersioningSet};
+ghost use Rattle.s3_stored_rows.specs.Leaving.{LeavesNoMore};
 ghost use Rattle.s3_table_records.specs.Kept.{kept, catalogue, IsKept, Changes};
 
 use s3_calendar::Moment;
@@ -25,9 +26,10 @@ pub(crate) fn add_bucket<R: StoredRows, B: StoredBodies>(
 ) -> Result<(), NoMemory>
     requires kept { IsKept (kept (R.tables rows.old) (B.contents bodies.now) (B.uses bodies.now) next) }
     requires new { has_bucket (catalogue (kept (R.tables rows.old) (B.contents bodies.now) (B.uses bodies.now) next)) bucket.now ≡ false }
-    ensures { Changes (kept (R.tables rows.old) (B.contents bodies.now) (B.uses bodies.now) next)
+    ensures changes { Changes (kept (R.tables rows.old) (B.contents bodies.now) (B.uses bodies.now) next)
         (kept (R.tables rows.new) (B.contents bodies.now) (B.uses bodies.now) (next +ℤ pos 1))
         bucket.now (BucketAdded moment) result }
+    ensures stays { LeavesNoMore R.leaves rows.old rows.new }
 {
     rows_tell_buckets();
     let _bodies = bodies;
@@ -44,9 +46,10 @@ pub(crate) fn drop_bucket<R: StoredRows, B: StoredBodies>(
     requires kept { IsKept (kept (R.tables rows.old) (B.contents bodies.now) (B.uses bodies.now) next) }
     requires there { IsTrue (has_bucket (catalogue (kept (R.tables rows.old) (B.contents bodies.now) (B.uses bodies.now) next)) bucket.now) }
     requires empty { IsTrue (is_empty_bucket (catalogue (kept (R.tables rows.old) (B.contents bodies.now) (B.uses bodies.now) next)) bucket.now) }
-    ensures { Changes (kept (R.tables rows.old) (B.contents bodies.now) (B.uses bodies.now) next)
+    ensures changes { Changes (kept (R.tables rows.old) (B.contents bodies.now) (B.uses bodies.now) next)
         (kept (R.tables rows.new) (B.contents bodies.now) (B.uses bodies.now) next)
         bucket.now BucketDropped result }
+    ensures stays { LeavesNoMore R.leaves rows.old rows.new }
 {
     rows_tell_buckets();
     let _bodies = bodies;
@@ -64,9 +67,10 @@ pub(crate) fn set_versioning<R: StoredRows, B: StoredBodies>(
 ) -> Result<(), NoMemory>
     requires kept { IsKept (kept (R.tables rows.old) (B.contents bodies.now) (B.uses bodies.now) next) }
     requires there { IsTrue (has_bucket (catalogue (kept (R.tables rows.old) (B.contents bodies.now) (B.uses bodies.now) next)) bucket.now) }
-    ensures { Changes (kept (R.tables rows.old) (B.contents bodies.now) (B.uses bodies.now) next)
+    ensures changes { Changes (kept (R.tables rows.old) (B.contents bodies.now) (B.uses bodies.now) next)
         (kept (R.tables rows.new) (B.contents bodies.now) (B.uses bodies.now) (next +ℤ pos 1))
         bucket.now (VersioningSet status) result }
+    ensures stays { LeavesNoMore R.leaves rows.old rows.new }
 {
     rows_tell_buckets();
     let _bodies = bodies;

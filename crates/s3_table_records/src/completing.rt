@@ -2,6 +2,8 @@
 ghost use Rattle.std.specs.Prelude.{◌≡◌, IfOk};
 ghost use Rattle.s3_uploads.specs.Completion.{completed as completed_upload};
 ghost use Rattle.s3_records.specs.OpenUploads.{completed_at, upload_at};
+ghost use Rattle.s3_stored_bodies.specs.Numbers.{StillOutlive};
+ghost use Rattle.s3_stored_rows.specs.Leaving.{LeavesNoMore};
 ghost use Rattle.s3_table_records.specs.Kept.{kept, catalogue, IsKept};
 
 use crate::uploads::found_upload;
@@ -32,6 +34,8 @@ pub(crate) fn completed<R: StoredRows, B: StoredBodies>(
     ensures tables { R.tables rows.new ≡ R.tables rows.old }
     ensures contents { B.contents bodies.new ≡ B.contents bodies.old }
     ensures uses { B.uses bodies.new ≡ B.uses bodies.old }
+    ensures stays { LeavesNoMore R.leaves rows.old rows.new }
+    ensures outlives { StillOutlive B.outlives bodies.old bodies.new }
 {
     match found_upload(rows, bodies, alloc, next, bucket, key, id)? {
         None => Ok(Err(Code::NoSuchUpload)),

@@ -6,7 +6,9 @@ ghost use Rattle.s3_versions.specs.Rules.{is_new_number, VersionPut};
 ghost use Rattle.s3_records.specs.Catalogue.{has_bucket, versions_of};
 ghost use Rattle.s3_records.specs.Changes.{UploadCompleted};
 ghost use Rattle.s3_records.specs.OpenUploads.{upload_at, bytes_listed};
+ghost use Rattle.s3_stored_bodies.specs.Numbers.{StillOutlive};
 ghost use Rattle.s3_stored_rows.specs.Changes.{upload_columns};
+ghost use Rattle.s3_stored_rows.specs.Leaving.{LeavesNoMore};
 ghost use Rattle.s3_stored_rows.specs.Queries.{upload_of_id};
 ghost use Rattle.s3_row_values.specs.Values.{data_with};
 ghost use Rattle.s3_row_changes.specs.Trading.{sent_numbers};
@@ -52,6 +54,8 @@ pub(crate) fn complete<R: StoredRows, B: StoredBodies>(
         (kept (R.tables rows.new) (B.contents bodies.new) (B.uses bodies.new) (next +ℤ pos 1))
         bucket.now (UploadCompleted key.now id (VersionPut number moment stored)) result }
     ensures gone { IfOk result (λ gone. gone ≡ upload_at (catalogue (kept (R.tables rows.old) (B.contents bodies.old) (B.uses bodies.old) next)) bucket.now key.now id) }
+    ensures stays { LeavesNoMore R.leaves rows.old rows.new }
+    ensures outlives { StillOutlive B.outlives bodies.old bodies.new }
 {
     let found = match find_upload(rows, bodies, alloc, next, bucket, key, id) {
         Ok(found) => found,
@@ -87,9 +91,11 @@ fn complete_whole<R: StoredRows, B: StoredBodies>(
     requires found { option_map (λ (u : UploadRows). upload_columns u.upload) found.now.rows ≡ upload_of_id bucket.now key.now (pos id) (R.tables rows.old) }
     requires rows { IfSome found.now.rows (AreRowsOf (R.tables rows.old)) }
     requires names { found.now.told.names.items ≡ sent_numbers (R.tables rows.old) (upload_of_id bucket.now key.now (pos id) (R.tables rows.old)) }
-    ensures { Changes (kept (R.tables rows.old) (B.contents bodies.old) (B.uses bodies.old) next)
+    ensures changes { Changes (kept (R.tables rows.old) (B.contents bodies.old) (B.uses bodies.old) next)
         (kept (R.tables rows.new) (B.contents bodies.new) (B.uses bodies.new) (next +ℤ pos 1))
         bucket.now (UploadCompleted key.now id (VersionPut number moment stored)) result }
+    ensures stays { LeavesNoMore R.leaves rows.old rows.new }
+    ensures outlives { StillOutlive B.outlives bodies.old bodies.new }
 {
     let Data {
         tag,
@@ -130,10 +136,12 @@ fn complete_listed<R: StoredRows, B: StoredBodies>(
     requires found { option_map (λ (u : UploadRows). upload_columns u.upload) found.now.rows ≡ upload_of_id bucket.now key.now (pos id) (R.tables rows.old) }
     requires rows { IfSome found.now.rows (AreRowsOf (R.tables rows.old)) }
     requires names { found.now.told.names.items ≡ sent_numbers (R.tables rows.old) (upload_of_id bucket.now key.now (pos id) (R.tables rows.old)) }
-    ensures { (bytes : List ℕ) → bytes_listed listed.now (upload_at (catalogue (kept (R.tables rows.old) (B.contents bodies.old) (B.uses bodies.old) next)) bucket.now key.now id) ≡ Some bytes
+    ensures changes { (bytes : List ℕ) → bytes_listed listed.now (upload_at (catalogue (kept (R.tables rows.old) (B.contents bodies.old) (B.uses bodies.old) next)) bucket.now key.now id) ≡ Some bytes
         → Changes (kept (R.tables rows.old) (B.contents bodies.old) (B.uses bodies.old) next)
         (kept (R.tables rows.new) (B.contents bodies.new) (B.uses bodies.new) (next +ℤ pos 1))
         bucket.now (UploadCompleted key.now id (VersionPut number moment (record { tag = described.now.tag; size = described.now.size; content_type = described.now.content_type; metadata = described.now.metadata; body = bytes }))) result }
+    ensures stays { LeavesNoMore R.leaves rows.old rows.new }
+    ensures outlives { StillOutlive B.outlives bodies.old bodies.new }
 {
     rows_tell_uploads();
     let names = match listed_names(rows, alloc, found.rows.as_ref(), listed) {
@@ -180,9 +188,11 @@ fn complete_found<R: StoredRows, B: StoredBodies>(
     requires rows { IfSome (option_copied found) (AreRowsOf (R.tables rows.old)) }
     requires listed { All (λ number. 0 < B.uses bodies.old number) listed.now }
     requires names { names.now ≡ sent_numbers (R.tables rows.old) (upload_of_id bucket.now key.now (pos id) (R.tables rows.old)) }
-    ensures { Changes (kept (R.tables rows.old) (B.contents bodies.old) (B.uses bodies.old) next)
+    ensures changes { Changes (kept (R.tables rows.old) (B.contents bodies.old) (B.uses bodies.old) next)
         (kept (R.tables rows.new) (B.contents bodies.new) (B.uses bodies.new) (next +ℤ pos 1))
         bucket.now (UploadCompleted key.now id (VersionPut number moment (data_with (B.contents bodies.old) listed.now described.now))) result }
+    ensures stays { LeavesNoMore R.leaves rows.old rows.new }
+    ensures outlives { StillOutlive B.outlives bodies.old bodies.new }
 {
     rows_tell_buckets();
     rows_tell_versions();

@@ -5,8 +5,9 @@ ghost use Rattle.s3_versions.specs.Rules.{is_new_number, VersionPut};
 ghost use Rattle.s3_records.specs.Catalogue.{has_bucket, versions_of, bytes_asked};
 ghost use Rattle.s3_records.specs.Changes.{KeyChanged};
 ghost use Rattle.s3_rows.specs.Meaning.{catalogue_of};
-ghost use Rattle.s3_stored_bodies.specs.Numbers.{Contents, times};
+ghost use Rattle.s3_stored_bodies.specs.Numbers.{Contents, times, StillOutlive};
 ghost use Rattle.s3_stored_rows.specs.Bodies.{encoding, numbers_named};
+ghost use Rattle.s3_stored_rows.specs.Leaving.{LeavesNoMore};
 ghost use Rattle.s3_row_values.specs.Values.{bytes_of, data_with};
 ghost use Rattle.s3_row_steps.specs.Steps.{AreKept};
 ghost use Rattle.s3_table_records.specs.Kept.{kept, catalogue, IsKept, Changes};
@@ -44,9 +45,11 @@ pub(crate) fn put_copy<R: StoredRows, B: StoredBodies>(
     requires there { IsTrue (has_bucket (catalogue (kept (R.tables rows.old) (B.contents bodies.old) (B.uses bodies.old) next)) bucket.now) }
     requires newer { IsTrue (is_new_number number (versions_of (catalogue (kept (R.tables rows.old) (B.contents bodies.old) (B.uses bodies.old) next)) bucket.now key.now)) }
     requires copied { bytes_asked (catalogue (kept (R.tables rows.old) (B.contents bodies.old) (B.uses bodies.old) next)) source.now source_key.now asked ≡ Some stored.body }
-    ensures { Changes (kept (R.tables rows.old) (B.contents bodies.old) (B.uses bodies.old) next)
+    ensures changes { Changes (kept (R.tables rows.old) (B.contents bodies.old) (B.uses bodies.old) next)
         (kept (R.tables rows.new) (B.contents bodies.new) (B.uses bodies.new) (next +ℤ pos 1))
         bucket.now (KeyChanged key.now (VersionPut number moment stored)) result }
+    ensures stays { LeavesNoMore R.leaves rows.old rows.new }
+    ensures outlives { StillOutlive B.outlives bodies.old bodies.new }
 {
     let Data {
         tag,
@@ -85,10 +88,12 @@ fn put_described<R: StoredRows, B: StoredBodies>(
     requires kept { IsKept (kept (R.tables rows.old) (B.contents bodies.old) (B.uses bodies.old) next) }
     requires there { IsTrue (has_bucket (catalogue (kept (R.tables rows.old) (B.contents bodies.old) (B.uses bodies.old) next)) bucket.now) }
     requires newer { IsTrue (is_new_number number (versions_of (catalogue (kept (R.tables rows.old) (B.contents bodies.old) (B.uses bodies.old) next)) bucket.now key.now)) }
-    ensures { (bytes : List ℕ) → bytes_asked (catalogue (kept (R.tables rows.old) (B.contents bodies.old) (B.uses bodies.old) next)) source.now source_key.now asked ≡ Some bytes
+    ensures changes { (bytes : List ℕ) → bytes_asked (catalogue (kept (R.tables rows.old) (B.contents bodies.old) (B.uses bodies.old) next)) source.now source_key.now asked ≡ Some bytes
         → Changes (kept (R.tables rows.old) (B.contents bodies.old) (B.uses bodies.old) next)
         (kept (R.tables rows.new) (B.contents bodies.new) (B.uses bodies.new) (next +ℤ pos 1))
         bucket.now (KeyChanged key.now (VersionPut number moment (record { tag = described.now.tag; size = described.now.size; content_type = described.now.content_type; metadata = described.now.metadata; body = bytes }))) result }
+    ensures stays { LeavesNoMore R.leaves rows.old rows.new }
+    ensures outlives { StillOutlive B.outlives bodies.old bodies.new }
 {
     let names = match source_names(rows, alloc, source, source_key, asked) {
         Ok(names) => names,
@@ -112,6 +117,7 @@ fn source_names<R: StoredRows>(
     ensures bytes { (contents : Contents) (bytes : List ℕ) → bytes_asked (catalogue_of (encoding contents) (R.tables rows.old)) bucket.now key.now asked ≡ Some bytes
         → IfOk result (λ names. bytes_of contents names.items ≡ bytes) }
     ensures same { R.tables rows.new ≡ R.tables rows.old }
+    ensures stays { LeavesNoMore R.leaves rows.old rows.new }
 {
     let row = match found(rows, bucket, key, asked) {
         Ok(row) => row,
@@ -137,9 +143,11 @@ fn put_shared<R: StoredRows, B: StoredBodies>(
     requires there { IsTrue (has_bucket (catalogue (kept (R.tables rows.old) (B.contents bodies.old) (B.uses bodies.old) next)) bucket.now) }
     requires newer { IsTrue (is_new_number number (versions_of (catalogue (kept (R.tables rows.old) (B.contents bodies.old) (B.uses bodies.old) next)) bucket.now key.now)) }
     requires names { All (λ number. 0 < B.uses bodies.old number) names.now }
-    ensures { Changes (kept (R.tables rows.old) (B.contents bodies.old) (B.uses bodies.old) next)
+    ensures changes { Changes (kept (R.tables rows.old) (B.contents bodies.old) (B.uses bodies.old) next)
         (kept (R.tables rows.new) (B.contents bodies.new) (B.uses bodies.new) (next +ℤ pos 1))
         bucket.now (KeyChanged key.now (VersionPut number moment (data_with (B.contents bodies.old) names.now described.now))) result }
+    ensures stays { LeavesNoMore R.leaves rows.old rows.new }
+    ensures outlives { StillOutlive B.outlives bodies.old bodies.new }
 {
     rows_tell_buckets();
     rows_tell_versions();

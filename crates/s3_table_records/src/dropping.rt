@@ -8,9 +8,10 @@ ghost use Rattle.s3_records.specs.Places.{AreBelow};
 ghost use Rattle.s3_rows.specs.Columns.{Tables};
 ghost use Rattle.s3_rows.specs.Finding.{id_column};
 ghost use Rattle.s3_rows.specs.Meaning.{version_of};
-ghost use Rattle.s3_stored_bodies.specs.Numbers.{times, named_less, KeepsNamed};
+ghost use Rattle.s3_stored_bodies.specs.Numbers.{times, named_less, KeepsNamed, StillOutlive};
 ghost use Rattle.s3_stored_rows.specs.Bodies.{encoding};
 ghost use Rattle.s3_stored_rows.specs.Changes.{changed_by, after_all, version_columns};
+ghost use Rattle.s3_stored_rows.specs.Leaving.{LeavesNoMore};
 ghost use Rattle.s3_stored_rows.specs.Queries.{version_of_id};
 ghost use Rattle.s3_row_steps.specs.Steps.{HaveSmallIds};
 ghost use Rattle.s3_table_records.specs.Kept.{kept, catalogue, IsKept, Changes, Deletes};
@@ -47,6 +48,8 @@ pub(crate) fn delete<R: StoredRows, B: StoredBodies>(
     ensures changes { Changes (kept (R.tables rows.old) (B.contents bodies.old) (B.uses bodies.old) next)
         (kept (R.tables rows.new) (B.contents bodies.new) (B.uses bodies.new) (next +ℤ pos 1))
         bucket.now (KeyChanged key.now (KeyDeleted number moment)) result }
+    ensures stays { LeavesNoMore R.leaves rows.old rows.new }
+    ensures outlives { StillOutlive B.outlives bodies.old bodies.new }
 {
     rows_tell_buckets();
     rows_tell_versions();
@@ -74,6 +77,8 @@ pub(crate) fn drop_version<R: StoredRows, B: StoredBodies>(
         (kept (R.tables rows.new) (B.contents bodies.new) (B.uses bodies.new) next)
         bucket.now (KeyChanged key.now (VersionDropped id)) result }
     ensures gone { IfOk result (λ gone. gone ≡ find (is_under id) (versions_of (catalogue (kept (R.tables rows.old) (B.contents bodies.old) (B.uses bodies.old) next)) bucket.now key.now)) }
+    ensures stays { LeavesNoMore R.leaves rows.old rows.new }
+    ensures outlives { StillOutlive B.outlives bodies.old bodies.new }
 {
     match steps::found_version(rows, bucket, key, Some(id)) {
         Ok(row) => drop_if_there(rows, bodies, alloc, next, bucket, key, id, row.as_ref()),
@@ -99,6 +104,8 @@ fn drop_if_there<R: StoredRows, B: StoredBodies>(
         bucket.now (KeyChanged key.now (VersionDropped id)) result }
     ensures gone { IfOk result (λ gone. gone
         ≡ option_map (λ (v : StoredVersion). version_of (encoding (B.contents bodies.old)) (version_columns v)) (option_copied row.entry)) }
+    ensures stays { LeavesNoMore R.leaves rows.old rows.new }
+    ensures outlives { StillOutlive B.outlives bodies.old bodies.new }
 {
     match row {
         None => match drop_none(rows, bodies, next, bucket, key, id) {
@@ -123,9 +130,10 @@ fn drop_none<R: StoredRows, B: StoredBodies>(
 ) -> Result<(), NoMemory>
     requires kept { IsKept (kept (R.tables rows.old) (B.contents bodies.now) (B.uses bodies.now) next) }
     requires found { version_of_id bucket.now key.now (id_column id) (R.tables rows.old) ≡ None }
-    ensures { Changes (kept (R.tables rows.old) (B.contents bodies.now) (B.uses bodies.now) next)
+    ensures changes { Changes (kept (R.tables rows.old) (B.contents bodies.now) (B.uses bodies.now) next)
         (kept (R.tables rows.new) (B.contents bodies.now) (B.uses bodies.now) next)
         bucket.now (KeyChanged key.now (VersionDropped id)) result }
+    ensures stays { LeavesNoMore R.leaves rows.old rows.new }
 {
     let _bodies = bodies;
     steps::drop_version(rows, next, bucket, key, id, None)
@@ -148,6 +156,8 @@ fn drop_found<R: StoredRows, B: StoredBodies>(
         (kept (R.tables rows.new) (B.contents bodies.new) (B.uses bodies.new) next)
         bucket.now (KeyChanged key.now (VersionDropped id)) result }
     ensures gone { IfOk result (λ version. version ≡ version_of (encoding (B.contents bodies.old)) (version_columns row.now)) }
+    ensures stays { LeavesNoMore R.leaves rows.old rows.new }
+    ensures outlives { StillOutlive B.outlives bodies.old bodies.new }
 {
     match version_from(alloc, bodies, row) {
         Ok(version) => match drop_row(rows, bodies, alloc, next, bucket, key, id, row) {
@@ -171,9 +181,11 @@ fn drop_row<R: StoredRows, B: StoredBodies>(
 ) -> Result<(), NoMemory>
     requires kept { IsKept (kept (R.tables rows.old) (B.contents bodies.old) (B.uses bodies.old) next) }
     requires found { version_of_id bucket.now key.now (id_column id) (R.tables rows.old) ≡ Some (version_columns row.now) }
-    ensures { Changes (kept (R.tables rows.old) (B.contents bodies.old) (B.uses bodies.old) next)
+    ensures changes { Changes (kept (R.tables rows.old) (B.contents bodies.old) (B.uses bodies.old) next)
         (kept (R.tables rows.new) (B.contents bodies.new) (B.uses bodies.new) next)
         bucket.now (KeyChanged key.now (VersionDropped id)) result }
+    ensures stays { LeavesNoMore R.leaves rows.old rows.new }
+    ensures outlives { StillOutlive B.outlives bodies.old bodies.new }
 {
     let numbers = read_numbers(alloc, row.bodies.as_slice())?;
     match steps::drop_version(rows, next, bucket, key, id, Some(row)) {
@@ -200,9 +212,11 @@ pub(crate) fn delete_all<R: StoredRows, B: StoredBodies>(
     requires kept { IsKept (kept (R.tables rows.old) (B.contents bodies.old) (B.uses bodies.old) next.old) }
     requires there { IsTrue (has_bucket (catalogue (kept (R.tables rows.old) (B.contents bodies.old) (B.uses bodies.old) next.old)) bucket.now) }
     requires below { AreBelow number (catalogue (kept (R.tables rows.old) (B.contents bodies.old) (B.uses bodies.old) next.old)) }
-    ensures { Deletes (kept (R.tables rows.old) (B.contents bodies.old) (B.uses bodies.old) next.old)
+    ensures deletes { Deletes (kept (R.tables rows.old) (B.contents bodies.old) (B.uses bodies.old) next.old)
         (kept (R.tables rows.new) (B.contents bodies.new) (B.uses bodies.new) next.new)
         bucket.now number moment objects.now result }
+    ensures stays { LeavesNoMore R.leaves rows.old rows.new }
+    ensures outlives { StillOutlive B.outlives bodies.old bodies.new }
 {
     rows_tell_buckets();
     rows_tell_versions();
@@ -236,6 +250,8 @@ fn change_all<R: StoredRows, B: StoredBodies>(
     ensures same_tables { OnErr result (R.tables rows.new ≡ R.tables rows.old) }
     ensures same_uses { OnErr result (B.uses bodies.new ≡ B.uses bodies.old) }
     ensures same_contents { OnErr result (B.contents bodies.new ≡ B.contents bodies.old) }
+    ensures stays { LeavesNoMore R.leaves rows.old rows.new }
+    ensures outlives { StillOutlive B.outlives bodies.old bodies.new }
 {
     match rows.apply(changes) {
         Ok(()) => {

@@ -5,9 +5,10 @@ ghost use Rattle.s3_uploads.specs.Parts.{part_at};
 ghost use Rattle.s3_records.specs.OpenUploads.{upload_at, parts_at};
 ghost use Rattle.s3_rows.specs.Meaning.{part_of, catalogue_of};
 ghost use Rattle.s3_rows.specs.Soundness.{AreSound};
-ghost use Rattle.s3_stored_bodies.specs.Numbers.{times};
+ghost use Rattle.s3_stored_bodies.specs.Numbers.{times, StillOutlive};
 ghost use Rattle.s3_stored_rows.specs.Bodies.{encoding, numbers_named, part_numbers};
 ghost use Rattle.s3_stored_rows.specs.Changes.{upload_columns, part_columns};
+ghost use Rattle.s3_stored_rows.specs.Leaving.{LeavesNoMore};
 ghost use Rattle.s3_stored_rows.specs.Queries.{upload_of_id, part_of_number};
 ghost use Rattle.s3_row_changes.specs.Trading.{numbers_of, sent_numbers};
 ghost use Rattle.s3_row_changes.specs.Uploads.{AreRowsOf};
@@ -94,6 +95,8 @@ pub(crate) fn find_upload<R: StoredRows, B: StoredBodies>(
     ensures tables { R.tables rows.new ≡ R.tables rows.old }
     ensures contents { B.contents bodies.new ≡ B.contents bodies.old }
     ensures uses { B.uses bodies.new ≡ B.uses bodies.old }
+    ensures stays { LeavesNoMore R.leaves rows.old rows.new }
+    ensures outlives { StillOutlive B.outlives bodies.old bodies.new }
 {
     let _next = next;
     let found = steps::found_upload(rows, alloc, bucket, key, id)?;
@@ -120,6 +123,8 @@ pub(crate) fn find_part<R: StoredRows, B: StoredBodies>(
     ensures tables { R.tables rows.new ≡ R.tables rows.old }
     ensures contents { B.contents bodies.new ≡ B.contents bodies.old }
     ensures uses { B.uses bodies.new ≡ B.uses bodies.old }
+    ensures stays { LeavesNoMore R.leaves rows.old rows.new }
+    ensures outlives { StillOutlive B.outlives bodies.old bodies.new }
 {
     let _next = next;
     rows_tell_uploads();
@@ -147,6 +152,7 @@ fn read_upload<R: StoredRows, B: StoredBodies>(
     ensures names { IfOk result (λ told. told.names.items ≡ sent_numbers (R.tables rows.now) (upload_of_id bucket.now key.now (pos id) (R.tables rows.now))) }
     ensures contents { B.contents bodies.new ≡ B.contents bodies.old }
     ensures uses { B.uses bodies.new ≡ B.uses bodies.old }
+    ensures outlives { StillOutlive B.outlives bodies.old bodies.new }
 {
     let names = upload_names(alloc, found)?;
     let upload = told_upload(rows, bodies, alloc, bucket, key, id, found)?;
@@ -168,6 +174,7 @@ fn read_part<R: StoredRows, B: StoredBodies>(
     ensures names { IfOk result (λ told. told.names.items ≡ numbers_of part_numbers (option_map part_columns (option_copied found.entry))) }
     ensures contents { B.contents bodies.new ≡ B.contents bodies.old }
     ensures uses { B.uses bodies.new ≡ B.uses bodies.old }
+    ensures outlives { StillOutlive B.outlives bodies.old bodies.new }
 {
     let names = part_names(alloc, found)?;
     let part = told_part(rows, bodies, alloc, upload, number, found)?;
@@ -191,6 +198,7 @@ pub(crate) fn told_upload<R: StoredRows, B: StoredBodies>(
     ensures value { IfOk result (λ told. told ≡ upload_at (catalogue_of (encoding (B.contents bodies.old)) (R.tables rows.now)) bucket.now key.now id) }
     ensures contents { B.contents bodies.new ≡ B.contents bodies.old }
     ensures uses { B.uses bodies.new ≡ B.uses bodies.old }
+    ensures outlives { StillOutlive B.outlives bodies.old bodies.new }
 {
     rows_tell_uploads();
     let _rows = rows;
@@ -217,6 +225,7 @@ fn told_part<R: StoredRows, B: StoredBodies>(
     ensures value { IfOk result (λ told. told ≡ option_map (part_of (encoding (B.contents bodies.old))) (part_of_number upload (pos number) (R.tables rows.now))) }
     ensures contents { B.contents bodies.new ≡ B.contents bodies.old }
     ensures uses { B.uses bodies.new ≡ B.uses bodies.old }
+    ensures outlives { StillOutlive B.outlives bodies.old bodies.new }
 {
     let _rows = rows;
     match found {
@@ -237,6 +246,7 @@ fn upload_row<R: StoredRows>(
 ) -> Result<StoredUpload, NoMemory>
     ensures value { IfOk result (λ found. upload_of_id bucket.now key.now (pos id) (R.tables rows.old) ≡ Some (upload_columns found)) }
     ensures same { R.tables rows.new ≡ R.tables rows.old }
+    ensures stays { LeavesNoMore R.leaves rows.old rows.new }
 {
     let Ok(id) = i64::try_from(id.number()) else {
         return Err(NoMemory);

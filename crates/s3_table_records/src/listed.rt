@@ -2,6 +2,7 @@
 ghost use Rattle.std.specs.Prelude.{◌≡◌, pos, IfOk};
 ghost use Rattle.std.specs.Option.{option_copied};
 ghost use Rattle.s3_stored_rows.specs.Bodies.{part_numbers};
+ghost use Rattle.s3_stored_rows.specs.Leaving.{LeavesNoMore};
 ghost use Rattle.s3_stored_rows.specs.Queries.{part_of_number};
 ghost use Rattle.s3_row_changes.specs.Trading.{numbers_of};
 ghost use Rattle.s3_row_changes.specs.declared.uploads.UploadRows.{UploadRows as Rows};
@@ -26,6 +27,7 @@ pub(crate) fn listed_names<R: StoredRows>(
     ensures names { IfOk result (λ names. names.items
         ≡ numbers_of (λ (u : Rows). all_listed (R.tables rows.old) u.upload.row listed.now) (option_copied found.entry)) }
     ensures same { R.tables rows.new ≡ R.tables rows.old }
+    ensures stays { LeavesNoMore R.leaves rows.old rows.new }
 {
     match found {
         Some(found) => names_in(rows, alloc, found.upload.row, listed),
@@ -42,6 +44,7 @@ fn names_in<R: StoredRows>(
 ) -> Result<Vec<u64>, NoMemory>
     ensures names { IfOk result (λ names. names.items ≡ all_listed (R.tables rows.old) upload listed.now) }
     ensures same { R.tables rows.new ≡ R.tables rows.old }
+    ensures stays { LeavesNoMore R.leaves rows.old rows.new }
 {
     let mut names = Vec::new(alloc);
     for part in listed {
@@ -60,6 +63,7 @@ fn names_of_part<R: StoredRows>(
 ) -> Result<Vec<u64>, NoMemory>
     ensures names { IfOk result (λ names. names.items ≡ numbers_of part_numbers (part_of_number upload (pos number) (R.tables rows.old))) }
     ensures same { R.tables rows.new ≡ R.tables rows.old }
+    ensures stays { LeavesNoMore R.leaves rows.old rows.new }
 {
     let row = rows.part(upload, i64::from(number.get()))?;
     part_names(alloc, row.as_ref())

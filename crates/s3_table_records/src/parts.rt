@@ -6,8 +6,10 @@ ghost use Rattle.s3_uploads.specs.declared.part.Part.{Part};
 ghost use Rattle.s3_records.specs.Catalogue.{has_bucket};
 ghost use Rattle.s3_records.specs.Changes.{PartPut};
 ghost use Rattle.s3_records.specs.OpenUploads.{upload_at, parts_at};
+ghost use Rattle.s3_stored_bodies.specs.Numbers.{StillOutlive};
 ghost use Rattle.s3_stored_rows.specs.Bodies.{part_numbers};
 ghost use Rattle.s3_stored_rows.specs.Changes.{upload_columns, part_columns};
+ghost use Rattle.s3_stored_rows.specs.Leaving.{LeavesNoMore};
 ghost use Rattle.s3_stored_rows.specs.Queries.{upload_of_id, part_of_number};
 ghost use Rattle.s3_row_changes.specs.Trading.{numbers_of};
 ghost use Rattle.s3_table_records.specs.Kept.{kept, catalogue, IsKept, Changes};
@@ -42,6 +44,8 @@ pub(crate) fn put_part<R: StoredRows, B: StoredBodies>(
         (kept (R.tables rows.new) (B.contents bodies.new) (B.uses bodies.new) (next +ℤ pos 1))
         bucket.now (PartPut key.now id number part) result }
     ensures former { IfOk result (λ former. former ≡ part_at number (parts_at (catalogue (kept (R.tables rows.old) (B.contents bodies.old) (B.uses bodies.old) next)) bucket.now key.now id)) }
+    ensures stays { LeavesNoMore R.leaves rows.old rows.new }
+    ensures outlives { StillOutlive B.outlives bodies.old bodies.new }
 {
     let found = match find_part(rows, bodies, alloc, next, bucket, key, id, number) {
         Ok(found) => found,
@@ -72,9 +76,11 @@ fn put_whole<R: StoredRows, B: StoredBodies>(
     requires upload { upload_of_id bucket.now key.now (pos id) (R.tables rows.old) ≡ Some (upload_columns found.now.upload) }
     requires row { option_map part_columns found.now.row ≡ part_of_number found.now.upload.row (pos number) (R.tables rows.old) }
     requires names { found.now.told.names.items ≡ numbers_of part_numbers (option_map part_columns found.now.row) }
-    ensures { Changes (kept (R.tables rows.old) (B.contents bodies.old) (B.uses bodies.old) next)
+    ensures changes { Changes (kept (R.tables rows.old) (B.contents bodies.old) (B.uses bodies.old) next)
         (kept (R.tables rows.new) (B.contents bodies.new) (B.uses bodies.new) (next +ℤ pos 1))
         bucket.now (PartPut key.now id number part) result }
+    ensures stays { LeavesNoMore R.leaves rows.old rows.new }
+    ensures outlives { StillOutlive B.outlives bodies.old bodies.new }
 {
     let Part {
         digest,
@@ -124,9 +130,11 @@ fn put_found<R: StoredRows, B: StoredBodies>(
     requires upload { upload_of_id bucket.now key.now (pos id) (R.tables rows.old) ≡ Some (upload_columns upload.now) }
     requires gone { option_map part_columns (option_copied gone) ≡ part_of_number upload.now.row (pos number) (R.tables rows.old) }
     requires names { names.now ≡ numbers_of part_numbers (option_map part_columns (option_copied gone)) }
-    ensures { Changes (kept (R.tables rows.old) (B.contents bodies.old) (B.uses bodies.old) next)
+    ensures changes { Changes (kept (R.tables rows.old) (B.contents bodies.old) (B.uses bodies.old) next)
         (kept (R.tables rows.new) (B.contents bodies.new) (B.uses bodies.new) (next +ℤ pos 1))
         bucket.now (PartPut key.now id number (record { digest = described.now.digest; moment = described.now.moment; size = described.now.size; body = body })) result }
+    ensures stays { LeavesNoMore R.leaves rows.old rows.new }
+    ensures outlives { StillOutlive B.outlives bodies.old bodies.new }
 {
     let held = match bodies.keep(alloc, body) {
         Ok(held) => held,

@@ -4,6 +4,8 @@ ghost use Rattle.s3_versions.specs.Rules.{is_new_number, VersionPut};
 ghost use Rattle.s3_versions.specs.declared.version.Data.{Data};
 ghost use Rattle.s3_records.specs.Catalogue.{has_bucket, versions_of};
 ghost use Rattle.s3_records.specs.Changes.{KeyChanged};
+ghost use Rattle.s3_stored_bodies.specs.Numbers.{StillOutlive};
+ghost use Rattle.s3_stored_rows.specs.Leaving.{LeavesNoMore};
 ghost use Rattle.s3_table_records.specs.Kept.{kept, catalogue, IsKept, Changes};
 
 use s3_bodies::Body;
@@ -33,9 +35,11 @@ pub(crate) fn put_version<R: StoredRows, B: StoredBodies>(
     requires kept { IsKept (kept (R.tables rows.old) (B.contents bodies.old) (B.uses bodies.old) next) }
     requires there { IsTrue (has_bucket (catalogue (kept (R.tables rows.old) (B.contents bodies.old) (B.uses bodies.old) next)) bucket.now) }
     requires newer { IsTrue (is_new_number number (versions_of (catalogue (kept (R.tables rows.old) (B.contents bodies.old) (B.uses bodies.old) next)) bucket.now key.now)) }
-    ensures { Changes (kept (R.tables rows.old) (B.contents bodies.old) (B.uses bodies.old) next)
+    ensures changes { Changes (kept (R.tables rows.old) (B.contents bodies.old) (B.uses bodies.old) next)
         (kept (R.tables rows.new) (B.contents bodies.new) (B.uses bodies.new) (next +ℤ pos 1))
         bucket.now (KeyChanged key.now (VersionPut number moment stored)) result }
+    ensures stays { LeavesNoMore R.leaves rows.old rows.new }
+    ensures outlives { StillOutlive B.outlives bodies.old bodies.new }
 {
     let Data {
         tag,
@@ -71,9 +75,11 @@ fn put_described<R: StoredRows, B: StoredBodies>(
     requires kept { IsKept (kept (R.tables rows.old) (B.contents bodies.old) (B.uses bodies.old) next) }
     requires there { IsTrue (has_bucket (catalogue (kept (R.tables rows.old) (B.contents bodies.old) (B.uses bodies.old) next)) bucket.now) }
     requires newer { IsTrue (is_new_number number (versions_of (catalogue (kept (R.tables rows.old) (B.contents bodies.old) (B.uses bodies.old) next)) bucket.now key.now)) }
-    ensures { Changes (kept (R.tables rows.old) (B.contents bodies.old) (B.uses bodies.old) next)
+    ensures changes { Changes (kept (R.tables rows.old) (B.contents bodies.old) (B.uses bodies.old) next)
         (kept (R.tables rows.new) (B.contents bodies.new) (B.uses bodies.new) (next +ℤ pos 1))
         bucket.now (KeyChanged key.now (VersionPut number moment (record { tag = described.now.tag; size = described.now.size; content_type = described.now.content_type; metadata = described.now.metadata; body = body }))) result }
+    ensures stays { LeavesNoMore R.leaves rows.old rows.new }
+    ensures outlives { StillOutlive B.outlives bodies.old bodies.new }
 {
     rows_tell_buckets();
     rows_tell_versions();

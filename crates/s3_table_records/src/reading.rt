@@ -3,9 +3,10 @@ ghost use Rattle.std.specs.Prelude.{◌≡◌, ◌≤◌, ℕ, ℤ, IfOk, IfSome
 ghost use Rattle.s3_versions.specs.Rules.{asked_for};
 ghost use Rattle.s3_records.specs.Catalogue.{versions_of};
 ghost use Rattle.s3_rows.specs.Meaning.{version_of, catalogue_of};
-ghost use Rattle.s3_stored_bodies.specs.Numbers.{Contents, times};
+ghost use Rattle.s3_stored_bodies.specs.Numbers.{Contents, times, StillOutlive};
 ghost use Rattle.s3_stored_rows.specs.Bodies.{encoding, version_numbers, numbers_named};
 ghost use Rattle.s3_stored_rows.specs.Changes.{version_columns};
+ghost use Rattle.s3_stored_rows.specs.Leaving.{LeavesNoMore};
 ghost use Rattle.s3_row_steps.specs.Steps.{AreKept};
 ghost use Rattle.s3_table_records.specs.Kept.{kept, catalogue, IsKept};
 
@@ -36,6 +37,8 @@ pub(crate) fn version<R: StoredRows, B: StoredBodies>(
     ensures tables { R.tables rows.new ≡ R.tables rows.old }
     ensures contents { B.contents bodies.new ≡ B.contents bodies.old }
     ensures uses { B.uses bodies.new ≡ B.uses bodies.old }
+    ensures stays { LeavesNoMore R.leaves rows.old rows.new }
+    ensures outlives { StillOutlive B.outlives bodies.old bodies.new }
 {
     match found(rows, bucket, key, asked)? {
         None => Ok(None),
@@ -58,6 +61,7 @@ pub(crate) fn found<R: StoredRows>(
         ≡ asked_for asked (versions_of (catalogue_of (encoding contents) (R.tables rows.old)) bucket.now key.now)) }
     ensures counted { IfOk result (λ found. IfSome found (λ v. (n : ℕ) → times n (version_numbers (version_columns v)) ≤ times n (numbers_named (R.tables rows.old)))) }
     ensures same { R.tables rows.new ≡ R.tables rows.old }
+    ensures stays { LeavesNoMore R.leaves rows.old rows.new }
 {
     rows_tell_versions();
     match asked {

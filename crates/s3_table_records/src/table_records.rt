@@ -2,11 +2,12 @@
 ghost use Rattle.std.specs.Prelude.{◌≡◌, ◌∷◌, ℕ, false, []};
 ghost use Rattle.s3_records.specs.Catalogue.{opening};
 ghost use Rattle.s3_rows.specs.Columns.{StoreColumns, no_rows};
-ghost use Rattle.s3_table_records.specs.Kept.{kept, kept_in, catalogue, IsKept, IsLeft};
+ghost use Rattle.s3_table_records.specs.Kept.{kept, kept_in, catalogue, IsKept};
+ghost use Rattle.s3_table_records.specs.Leaving.{IsLeft, LeavesOneOf, one_of_more};
 
-use crate::keeping::{commit_rows, let_go};
 use crate::{
-    asking, buckets, completing, completion, copying, dropping, parts, putting, reading, uploads,
+    asking, buckets, completing, completion, copying, dropping, keeping, parts, putting, reading,
+    uploads,
 };
 use s3_bodies::Body;
 use s3_calendar::Moment;
@@ -79,18 +80,16 @@ impl<R: StoredRows, B: StoredBodies> Records for TableRecords<R, B> {
 
     ghost leaves = { λ records left. IsLeft (R.leaves records.rows) (B.leaves records.bodies) left };
 
+    ghost leaves_one_of = { λ records. LeavesOneOf (R.leaves records.rows) (B.outlives records.bodies) };
+
+    ghost or_of_more = { λ records. one_of_more (R.leaves records.rows) (B.outlives records.bodies) };
+
+    fn outlive_crashes(&self) {
+        self.bodies.outlive_crashes();
+    }
+
     fn commit(&mut self) -> Result<(), CommitError> {
-        if self.bodies.settle().is_err() {
-            return Err(CommitError::Failed);
-        }
-        match commit_rows(&mut self.rows, &self.bodies) {
-            Ok(()) => {
-                let_go(&self.rows, &mut self.bodies);
-                self.bodies.outlive_crashes();
-                Ok(())
-            }
-            Err(error) => Err(error),
-        }
+        keeping::commit(&mut self.rows, &mut self.bodies)
     }
 
     fn bucket(

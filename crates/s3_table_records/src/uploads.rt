@@ -3,7 +3,9 @@ ghost use Rattle.std.specs.Prelude.{◌≡◌, ℤ, pos, ◌+ℤ◌, [], IsTrue,
 ghost use Rattle.s3_records.specs.Catalogue.{has_bucket};
 ghost use Rattle.s3_records.specs.Changes.{UploadAdded, UploadDropped};
 ghost use Rattle.s3_records.specs.OpenUploads.{upload_at};
+ghost use Rattle.s3_stored_bodies.specs.Numbers.{StillOutlive};
 ghost use Rattle.s3_stored_rows.specs.Changes.{upload_columns};
+ghost use Rattle.s3_stored_rows.specs.Leaving.{LeavesNoMore};
 ghost use Rattle.s3_stored_rows.specs.Queries.{upload_of_id};
 ghost use Rattle.s3_row_changes.specs.Trading.{sent_numbers};
 ghost use Rattle.s3_row_changes.specs.Uploads.{AreRowsOf};
@@ -36,6 +38,8 @@ pub(crate) fn found_upload<R: StoredRows, B: StoredBodies>(
     ensures tables { R.tables rows.new ≡ R.tables rows.old }
     ensures contents { B.contents bodies.new ≡ B.contents bodies.old }
     ensures uses { B.uses bodies.new ≡ B.uses bodies.old }
+    ensures stays { LeavesNoMore R.leaves rows.old rows.new }
+    ensures outlives { StillOutlive B.outlives bodies.old bodies.new }
 {
     let _next = next;
     let found = steps::found_upload(rows, alloc, bucket, key, id)?;
@@ -59,6 +63,8 @@ pub(crate) fn add_upload<R: StoredRows, B: StoredBodies>(
     ensures changes { Changes (kept (R.tables rows.old) (B.contents bodies.old) (B.uses bodies.old) next)
         (kept (R.tables rows.new) (B.contents bodies.new) (B.uses bodies.new) (next +ℤ pos 1))
         bucket.now (UploadAdded key.now id upload.now) result }
+    ensures stays { LeavesNoMore R.leaves rows.old rows.new }
+    ensures outlives { StillOutlive B.outlives bodies.old bodies.new }
 {
     rows_tell_buckets();
     match steps::add_upload(rows, alloc, next, bucket, key, id, upload) {
@@ -85,6 +91,8 @@ pub(crate) fn drop_upload<R: StoredRows, B: StoredBodies>(
         (kept (R.tables rows.new) (B.contents bodies.new) (B.uses bodies.new) next)
         bucket.now (UploadDropped key.now id) result }
     ensures gone { IfOk result (λ gone. gone ≡ upload_at (catalogue (kept (R.tables rows.old) (B.contents bodies.old) (B.uses bodies.old) next)) bucket.now key.now id) }
+    ensures stays { LeavesNoMore R.leaves rows.old rows.new }
+    ensures outlives { StillOutlive B.outlives bodies.old bodies.new }
 {
     let found = match find_upload(rows, bodies, alloc, next, bucket, key, id) {
         Ok(found) => found,
@@ -111,9 +119,11 @@ fn drop_found<R: StoredRows, B: StoredBodies>(
     requires found { option_map (λ (u : UploadRows). upload_columns u.upload) found.now.rows ≡ upload_of_id bucket.now key.now (pos id) (R.tables rows.old) }
     requires rows { IfSome found.now.rows (AreRowsOf (R.tables rows.old)) }
     requires names { found.now.told.names.items ≡ sent_numbers (R.tables rows.old) (upload_of_id bucket.now key.now (pos id) (R.tables rows.old)) }
-    ensures { Changes (kept (R.tables rows.old) (B.contents bodies.old) (B.uses bodies.old) next)
+    ensures changes { Changes (kept (R.tables rows.old) (B.contents bodies.old) (B.uses bodies.old) next)
         (kept (R.tables rows.new) (B.contents bodies.new) (B.uses bodies.new) next)
         bucket.now (UploadDropped key.now id) result }
+    ensures stays { LeavesNoMore R.leaves rows.old rows.new }
+    ensures outlives { StillOutlive B.outlives bodies.old bodies.new }
 {
     match steps::drop_upload(rows, alloc, next, bucket, key, id, found.rows.as_ref()) {
         Ok(()) => {

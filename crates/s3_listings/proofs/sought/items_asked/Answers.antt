@@ -75,6 +75,7 @@ loop-place-preserved g c =
     c.loop-place.invariant.same c.in_ok-rows.ensures.value in
     record {
       same = c.enough_rows.ensures.same ∙ c.loop-place.invariant.same;
+      stays = λ known is. c.enough_rows.ensures.stays known (c.loop-place.invariant.stays known is);
       place =
           place_on g.T.Listed.key rolling.prefix rolling.delimiter wanted.marker.now wanted.prefix.now c.requires.rolling (g.T.Listed.all catalogue c.args.bucket.now) behind
           (c.stand_by_key.ensures.behind catalogue c.args.bucket.now wanted.marker.now wanted.id) c.args.most c.loop-place.place c.in_ok-rows.rows.items some

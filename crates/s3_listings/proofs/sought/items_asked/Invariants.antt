@@ -1,4 +1,5 @@
 use Rattle.std.proofs.Common.{◌≡◌, ◌++◌, filter, length}
+use Rattle.s3_records.specs.Leaving.{StaysKnown}
 use Rattle.s3_listings.specs.Rolled.{items_asked}
 use Rattle.s3_listings.specs.Sought.{begins_with}
 use Rattle.s3_listings.specs.Taken.{IsPlace, left_at}
@@ -10,6 +11,7 @@ invariant-loop-place g l =
     let asked = filter (begins_with g.T.Listed.key l.wanted.prefix.now) (g.T.Listed.behind (g.R.Records.catalogue l.initial.records) l.bucket l.wanted.marker.now l.wanted.id) in
     record {
       same : g.R.Records.catalogue l.records ≡ g.R.Records.catalogue l.initial.records;
+      stays : StaysKnown g.R.Records.leaves_one_of l.initial.records l.records;
       place : IsPlace l.wanted.prefix.now l.wanted.marker.now l.place;
       known : l.items.items ++ items_asked g.T.Listed.key l.rolling.prefix l.rolling.delimiter l.wanted.marker.now (left_at g.T.Listed.key asked l.place)
           ≡ items_asked g.T.Listed.key l.rolling.prefix l.rolling.delimiter l.wanted.marker.now asked;

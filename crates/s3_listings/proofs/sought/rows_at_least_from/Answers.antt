@@ -21,5 +21,6 @@ loop-rows-smaller g c =
 pub loop-rows-preserved : goal.loop-rows-preserved
 loop-rows-preserved g c = record {
   same = c.rows_from.ensures.same ∙ c.loop-rows.invariant.same;
+  stays = λ known is. c.rows_from.ensures.stays known (c.loop-rows.invariant.stays known is);
   covers = covers_behind c.in-Some.key c.args.text.now (taken_before g.T.Listed.key c.in_ok-rows.rows.items c.args.text.now c.in-Some.key c.in-Some.ensures.some);
 }

@@ -1,4 +1,5 @@
 use Rattle.std.proofs.Common.{◌≡◌, length}
+use Rattle.s3_records.specs.Leaving.{StaysKnown}
 use Rattle.s3_listings.specs.Sought.{Covers, rows_from}
 use Rattle.s3_listings.proofs.sought.rows_at_least_from.Given as goal
 
@@ -6,6 +7,7 @@ use Rattle.s3_listings.proofs.sought.rows_at_least_from.Given as goal
 abbrev pub invariant-loop-rows : goal.invariant-loop-rows
 invariant-loop-rows g l = record {
   same : g.R.Records.catalogue l.records ≡ g.R.Records.catalogue l.initial.records;
+  stays : StaysKnown g.R.Records.leaves_one_of l.initial.records l.records;
   covers : Covers l.start l.text;
 }
 

@@ -20,4 +20,5 @@ loop-object-preserved g c =
           (subst (λ t. AreSteps t bucket e (so_far ++ object ∷ []) c.delete.new.self) same
           (c.in_ok-delete.ensures.ok so_far (subst (λ t. AreSteps t bucket e so_far c.loop-object.all) (sym same) c.loop-object.invariant.steps)));
       same = c.delete.ensures.same ∙ same;
+      stays = λ t left. c.loop-object.invariant.stays t (c.delete.ensures.stays t left);
     }

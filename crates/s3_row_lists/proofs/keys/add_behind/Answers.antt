@@ -36,4 +36,5 @@ loop-alloc-preserved g c =
           c.in-Some.next.items (g.R.StoredRows.tables c.versions_behind.new.self) ends.0 ends.1 _ c.in_ok-page.ensures.same ends.2 ends.3 (c.loop-alloc.invariant.rows contents);
       same = c.in_ok-page.ensures.same ∙ c.loop-alloc.invariant.same;
       few = cut_fits c.args.most _ c.page_told.new.told.items (c.in_ok-page_told.ensures.value empty);
+      stays = λ t left. c.loop-alloc.invariant.stays t (c.in_ok-page.ensures.stays t left);
     }

@@ -27,4 +27,5 @@ returns-in-Enabled g c = record {
       c.versioning_of.ensures.same (ap (λ r. r +ℤ pos 1) (to_z-of_z c.ranges.next)) refl steps)
       c.mark.ensures.ok;
   err = on_err_weaker c.mark.result (λ same. same ∙ c.versioning_of.ensures.same) c.mark.ensures.err;
+  stays = λ t left. c.versioning_of.ensures.stays t (c.mark.ensures.stays t left);
 }

@@ -17,6 +17,7 @@ loop-part-init g c = record {
   parts = ap (λ (ps : List (ℕ × Part (List ℕ))). record c.args.upload.now { parts = ps }) c.requires.none;
   contents = refl;
   uses = refl;
+  outlives = λ number bytes did. did;
 }
 
 pub put_part-requires : goal.put_part-requires
@@ -32,4 +33,5 @@ loop-part-preserved g c = record {
       c.loop-part.invariant.contents c.loop-part.invariant.parts c.in_ok-put_part.ensures.ok;
   contents = c.put_part.ensures.contents ∙ c.loop-part.invariant.contents;
   uses = c.put_part.ensures.uses ∙ c.loop-part.invariant.uses;
+  outlives = λ number bytes did. c.put_part.ensures.outlives number bytes (c.loop-part.invariant.outlives number bytes did);
 }

@@ -1,6 +1,7 @@
 use Rattle.std.proofs.Common.{◌≡◌, take}
 use Rattle.std.proofs.Common.{map as each}
 use Rattle.s3_rows.specs.ReadingLaws.{numbered_part}
+use Rattle.s3_stored_bodies.specs.Numbers.{StillOutlive}
 use Rattle.s3_stored_rows.specs.Bodies.{encoding}
 use Rattle.s3_stored_rows.specs.Changes.{part_columns}
 use Rattle.s3_stored_rows.specs.declared.rows.StoredPart.{StoredPart}
@@ -13,4 +14,5 @@ invariant-loop-part g l = record {
       { parts = each (λ (p : StoredPart). numbered_part (encoding (g.B.StoredBodies.contents l.fn.bodies)) (part_columns p)) (take l.part-index l.parts) };
   contents : g.B.StoredBodies.contents l.bodies ≡ g.B.StoredBodies.contents l.fn.bodies;
   uses : g.B.StoredBodies.uses l.bodies ≡ g.B.StoredBodies.uses l.fn.bodies;
+  outlives : StillOutlive g.B.StoredBodies.outlives l.fn.bodies l.bodies;
 }

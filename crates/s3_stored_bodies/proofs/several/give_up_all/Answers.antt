@@ -8,6 +8,7 @@ pub loop-number-init : goal.loop-number-init
 loop-number-init g c = record {
   uses = sym (named_less-none (g.B.StoredBodies.uses c.args.bodies.now));
   contents = λ number named. refl;
+  outlives = λ number bytes did. did;
 }
 
 pub loop-number-preserved : goal.loop-number-preserved
@@ -22,4 +23,5 @@ loop-number-preserved g c =
           ∙ ap (λ front. named_less front start) (sym (take_more xs i 0 c.loop-number-test.true));
       contents = λ q named. c.give_up.ensures.contents q named
           ∙ c.loop-number.invariant.contents q (still_named (number ∷ []) (g.B.StoredBodies.uses c.give_up.new.self) (g.B.StoredBodies.uses c.loop-number.bodies) c.give_up.ensures.uses q named);
+      outlives = λ q bytes did. c.give_up.ensures.outlives q bytes (c.loop-number.invariant.outlives q bytes did);
     }

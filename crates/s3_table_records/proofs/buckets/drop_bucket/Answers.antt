@@ -3,8 +3,8 @@ use Rattle.s3_records.specs.Changes.{BucketDropped}
 use Rattle.s3_table_records.proofs.KeptLemmas.{passed}
 use Rattle.s3_table_records.proofs.buckets.drop_bucket.Goals as goal
 
-pub returns : goal.returns
-returns g c =
+pub returns-clause-changes : goal.returns-clause-changes
+returns-clause-changes g c =
     passed (g.R.StoredRows.tables c.args.rows.now) (g.B.StoredBodies.contents c.args.bodies.now) (g.B.StoredBodies.uses c.args.bodies.now) c.args.next c.args.next c.requires.kept c.requires.kept
     c.args.bucket.now BucketDropped (g.R.StoredRows.tables c.drop_bucket.new.rows) c.drop_bucket.result
     (rw (to_z-of_z c.ranges.next) at c.drop_bucket.ensures.ok) c.drop_bucket.ensures.err

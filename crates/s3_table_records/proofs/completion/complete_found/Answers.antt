@@ -20,8 +20,8 @@ give_up_both-requires g c = λ n.
     (less_counted t (g.R.StoredRows.tables c.complete.new.rows) (g.B.StoredBodies.uses c.args.bodies.now) (c.in-Ok.gone.items ++ sent_numbers t (upload_of_id c.args.bucket.now c.args.key.now (pos c.args.id) t)) c.args.listed.now
     c.requires.kept.named c.in-Ok.ensures.ok.trades n)
 
-pub returns-in-Ok : goal.returns-in-Ok
-returns-in-Ok g c =
+pub returns-in-Ok-clause-changes : goal.returns-in-Ok-clause-changes
+returns-in-Ok-clause-changes g c =
     let t = g.R.StoredRows.tables c.args.rows.now in
     is_shared t (g.B.StoredBodies.contents c.args.bodies.now) (g.B.StoredBodies.uses c.args.bodies.now) c.args.next c.requires.kept c.args.bucket.now _
     _ (g.R.StoredRows.tables c.complete.new.rows) (g.B.StoredBodies.contents c.give_up_both.new.bodies) (g.B.StoredBodies.uses c.give_up_both.new.bodies)
@@ -30,8 +30,8 @@ returns-in-Ok g c =
     (rw (c.deref.ensures.value, c.requires.names, c.in_default.ensures.uses) at c.give_up_both.ensures.uses)
     (rw c.in_default.ensures.contents at c.give_up_both.ensures.contents)
 
-pub returns-in-Err-complete : goal.returns-in-Err-complete
-returns-in-Err-complete g c =
+pub returns-in-Err-complete-clause-changes : goal.returns-in-Err-complete-clause-changes
+returns-in-Err-complete-clause-changes g c =
     rw c.in-Err-complete.ensures.err
     (is_unshared (g.R.StoredRows.tables c.args.rows.now) (g.B.StoredBodies.contents c.args.bodies.now) (g.B.StoredBodies.uses c.args.bodies.now) c.args.next c.requires.kept c.args.bucket.now _
     _ (g.B.StoredBodies.contents c.give_up_all.new.bodies) (g.B.StoredBodies.uses c.give_up_all.new.bodies) c.args.listed.now

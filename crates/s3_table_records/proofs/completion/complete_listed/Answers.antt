@@ -10,8 +10,8 @@ use Rattle.s3_table_records.proofs.KeptLemmas.{is_same}
 use Rattle.s3_table_records.proofs.ListedLemmas.{listed_counted, joined_is}
 use Rattle.s3_table_records.proofs.completion.complete_listed.Goals as goal
 
-pub returns-in-Err : goal.returns-in-Err
-returns-in-Err g c = λ bytes is.
+pub returns-in-Err-clause-changes : goal.returns-in-Err-clause-changes
+returns-in-Err-clause-changes g c = λ bytes is.
     rw c.in-Err.ensures.same
     (is_same (g.R.StoredRows.tables c.args.rows.now) (g.B.StoredBodies.contents c.args.bodies.now) (g.B.StoredBodies.uses c.args.bodies.now) c.args.next c.requires.kept c.args.bucket.now _ _)
 
@@ -21,8 +21,8 @@ complete_found-requires-clause-listed g c =
     (listed_counted (g.R.StoredRows.tables c.args.rows.now) (g.B.StoredBodies.uses c.args.bodies.now) c.requires.kept.named (option_copied c.as_ref.result) c.args.listed.now)
 
 -- the bytes of the parts that are listed are those that are to be stored
-pub returns : goal.returns
-returns g c = λ bytes is.
+pub returns-clause-changes : goal.returns-clause-changes
+returns-clause-changes g c = λ bytes is.
     let t = g.R.StoredRows.tables c.args.rows.now in
     let contents = g.B.StoredBodies.contents c.args.bodies.now in
     let same = ap (flat_map (bytes_under contents)) (c.deref.ensures.value ∙ c.in-Ok.ensures.names)
@@ -31,4 +31,4 @@ returns g c = λ bytes is.
     subst (λ (b : List ℕ). Changes (kept t contents (g.B.StoredBodies.uses c.args.bodies.now) c.args.next)
     (kept (g.R.StoredRows.tables c.complete_found.new.rows) (g.B.StoredBodies.contents c.complete_found.new.bodies) (g.B.StoredBodies.uses c.complete_found.new.bodies) (c.args.next +ℤ pos 1))
     c.args.bucket.now (UploadCompleted c.args.key.now c.args.id (VersionPut c.args.number c.args.moment (data_of c.args.described.now b))) c.complete_found.result)
-    same (rw (to_z-of_z c.ranges.next, c.in-Ok.ensures.same) at c.complete_found.ensures)
+    same (rw (to_z-of_z c.ranges.next, c.in-Ok.ensures.same) at c.complete_found.ensures.changes)

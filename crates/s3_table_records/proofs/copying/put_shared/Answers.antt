@@ -17,8 +17,8 @@ give_up_all-requires g c = λ n.
     (less_counted (g.R.StoredRows.tables c.args.rows.now) (g.R.StoredRows.tables c.put_version.new.rows) (g.B.StoredBodies.uses c.args.bodies.now) c.in-Ok.gone.items c.args.names.now
     c.requires.kept.named c.in-Ok.ensures.ok.trades n)
 
-pub returns-in-Ok : goal.returns-in-Ok
-returns-in-Ok g c =
+pub returns-in-Ok-clause-changes : goal.returns-in-Ok-clause-changes
+returns-in-Ok-clause-changes g c =
     is_shared (g.R.StoredRows.tables c.args.rows.now) (g.B.StoredBodies.contents c.args.bodies.now) (g.B.StoredBodies.uses c.args.bodies.now) c.args.next c.requires.kept c.args.bucket.now _
     _ (g.R.StoredRows.tables c.put_version.new.rows) (g.B.StoredBodies.contents c.give_up_all.new.bodies) (g.B.StoredBodies.uses c.give_up_all.new.bodies)
     (λ contents. KeyChanged c.args.key.now (VersionPut c.args.number c.args.moment (data_with contents c.args.names.now c.args.described.now)))
@@ -26,8 +26,8 @@ returns-in-Ok g c =
     (rw (c.as_slice.ensures.value, c.in_default.ensures.uses) at c.give_up_all.ensures.uses)
     (rw c.in_default.ensures.contents at c.give_up_all.ensures.contents)
 
-pub returns-in-Err-put_version : goal.returns-in-Err-put_version
-returns-in-Err-put_version g c =
+pub returns-in-Err-put_version-clause-changes : goal.returns-in-Err-put_version-clause-changes
+returns-in-Err-put_version-clause-changes g c =
     rw c.in-Err-put_version.ensures.err
     (is_unshared (g.R.StoredRows.tables c.args.rows.now) (g.B.StoredBodies.contents c.args.bodies.now) (g.B.StoredBodies.uses c.args.bodies.now) c.args.next c.requires.kept c.args.bucket.now _
     _ (g.B.StoredBodies.contents c.give_up_all-in-Err-put_version.new.bodies) (g.B.StoredBodies.uses c.give_up_all-in-Err-put_version.new.bodies) c.args.names.now

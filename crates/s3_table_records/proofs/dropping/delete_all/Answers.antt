@@ -15,8 +15,8 @@ change_all-requires g c = λ n.
     (dropped_counted (g.R.StoredRows.tables c.args.rows.now) (after_all c.in_ok-changes.field-0.changes.items (g.R.StoredRows.tables c.args.rows.now)) (g.B.StoredBodies.uses c.args.bodies.now) c.in_ok-changes.field-0.gone.items c.requires.kept.named
     c.in_ok-changes.ensures.value.trades n)
 
-pub returns-in-Ok : goal.returns-in-Ok
-returns-in-Ok g c =
+pub returns-in-Ok-clause-deletes : goal.returns-in-Ok-clause-deletes
+returns-in-Ok-clause-deletes g c =
     let fits : SFits w64 c.in_ok-changes.field-0.next = search rules in
     is_all_deleted (g.R.StoredRows.tables c.args.rows.now) (g.B.StoredBodies.contents c.args.bodies.now) (g.B.StoredBodies.uses c.args.bodies.now) c.args.next.now c.requires.kept c.args.bucket.now c.args.number c.args.moment c.args.objects.now c.in_ok-changes.field-0 c.in_ok-changes.ensures.value
     (g.B.StoredBodies.contents c.change_all.new.bodies) (g.B.StoredBodies.uses c.change_all.new.bodies)

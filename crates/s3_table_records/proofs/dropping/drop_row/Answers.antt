@@ -14,8 +14,8 @@ give_up_all-requires g c = λ n.
     rw named
     (dropped_counted (g.R.StoredRows.tables c.args.rows.now) (g.R.StoredRows.tables c.drop_version.new.rows) (g.B.StoredBodies.uses c.args.bodies.now) (version_numbers (version_columns c.args.row.now)) c.requires.kept.named c.in-Ok.ensures.ok.trades n)
 
-pub returns-in-Ok : goal.returns-in-Ok
-returns-in-Ok g c =
+pub returns-in-Ok-clause-changes : goal.returns-in-Ok-clause-changes
+returns-in-Ok-clause-changes g c =
     let named : c.as_slice-in-Ok.result.now ≡ version_numbers (version_columns c.args.row.now) = c.as_slice-in-Ok.ensures.value ∙ c.in_ok-numbers.ensures.value ∙ ap numbers_in c.as_slice.ensures.value in
     is_gone (g.R.StoredRows.tables c.args.rows.now) (g.B.StoredBodies.contents c.args.bodies.now) (g.B.StoredBodies.uses c.args.bodies.now) c.args.next c.requires.kept c.args.bucket.now (KeyChanged c.args.key.now (VersionDropped c.args.id))
     _ (g.R.StoredRows.tables c.drop_version.new.rows) (g.B.StoredBodies.contents c.give_up_all.new.bodies) (g.B.StoredBodies.uses c.give_up_all.new.bodies) c.args.next

@@ -17,8 +17,8 @@ give_up_all-requires g c = λ n.
     rw (c.as_slice.ensures.value, c.in-Ok.ensures.uses)
     (less_counted (g.R.StoredRows.tables c.args.rows.now) (g.R.StoredRows.tables c.put_version.new.rows) (g.B.StoredBodies.uses c.args.bodies.now) c.in-Ok-put_version.gone.items (c.in-Ok.held ∷ []) c.requires.kept.named c.in-Ok-put_version.ensures.ok.trades n)
 
-pub returns-in-Ok-put_version : goal.returns-in-Ok-put_version
-returns-in-Ok-put_version g c =
+pub returns-in-Ok-put_version-clause-changes : goal.returns-in-Ok-put_version-clause-changes
+returns-in-Ok-put_version-clause-changes g c =
     is_put (g.R.StoredRows.tables c.args.rows.now) (g.B.StoredBodies.contents c.args.bodies.now) (g.B.StoredBodies.uses c.args.bodies.now) c.args.next c.requires.kept c.args.bucket.now _
     (g.B.StoredBodies.contents c.give_up_all.new.bodies) (g.B.StoredBodies.uses c.give_up_all.new.bodies) c.in-Ok.held c.args.body (g.met.B.StoredBodies.named_where_there c.args.bodies.now) c.in-Ok.ensures.new_or_same
     _ (g.R.StoredRows.tables c.put_version.new.rows) (λ contents. KeyChanged c.args.key.now (VersionPut c.args.number c.args.moment (data_with contents (c.in-Ok.held ∷ []) c.args.described.now))) c.in-Ok-put_version.gone.items (rw (to_z-of_z c.ranges.next) at c.in-Ok-put_version.ensures.ok)
@@ -26,8 +26,8 @@ returns-in-Ok-put_version g c =
     (rw (c.as_slice.ensures.value, c.in-Ok.ensures.uses) at c.give_up_all.ensures.uses)
     (rw c.in-Ok.ensures.contents at c.give_up_all.ensures.contents)
 
-pub returns-in-Err-put_version : goal.returns-in-Err-put_version
-returns-in-Err-put_version g c =
+pub returns-in-Err-put_version-clause-changes : goal.returns-in-Err-put_version-clause-changes
+returns-in-Err-put_version-clause-changes g c =
     rw c.in-Err-put_version.ensures.err
     (is_back (g.R.StoredRows.tables c.args.rows.now) (g.B.StoredBodies.contents c.args.bodies.now) (g.B.StoredBodies.uses c.args.bodies.now) c.args.next c.requires.kept c.args.bucket.now _
     (g.B.StoredBodies.contents c.give_up.new.self) (g.B.StoredBodies.uses c.give_up.new.self) c.in-Ok.held c.args.body (g.met.B.StoredBodies.named_where_there c.args.bodies.now) c.in-Ok.ensures.new_or_same

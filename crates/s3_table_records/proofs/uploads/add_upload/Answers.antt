@@ -9,16 +9,14 @@ give_up_all-requires g c =
     gone_counted (g.R.StoredRows.tables c.args.rows.now) (g.R.StoredRows.tables c.add_upload.new.rows) (g.B.StoredBodies.uses c.args.bodies.now) c.in-Ok.gone.items c.deref.result.now
     c.requires.kept.named c.in-Ok.ensures.ok.trades c.deref.ensures.value
 
-pub returns-in-Ok : goal.returns-in-Ok
-returns-in-Ok g c = record {
-  changes = is_gone (g.R.StoredRows.tables c.args.rows.now) (g.B.StoredBodies.contents c.args.bodies.now) (g.B.StoredBodies.uses c.args.bodies.now) c.args.next c.requires.kept c.args.bucket.now _
-      _ (g.R.StoredRows.tables c.add_upload.new.rows) (g.B.StoredBodies.contents c.give_up_all.new.bodies) (g.B.StoredBodies.uses c.give_up_all.new.bodies) (c.args.next +ℤ pos 1)
-      (λ _. UploadAdded c.args.key.now c.args.id c.args.upload.now) c.in-Ok.gone.items (rw (to_z-of_z c.ranges.next) at c.in-Ok.ensures.ok) refl
-      (rw c.deref.ensures.value at c.give_up_all.ensures.uses) c.give_up_all.ensures.contents;
-}
+pub returns-in-Ok-clause-changes : goal.returns-in-Ok-clause-changes
+returns-in-Ok-clause-changes g c =
+    is_gone (g.R.StoredRows.tables c.args.rows.now) (g.B.StoredBodies.contents c.args.bodies.now) (g.B.StoredBodies.uses c.args.bodies.now) c.args.next c.requires.kept c.args.bucket.now _
+    _ (g.R.StoredRows.tables c.add_upload.new.rows) (g.B.StoredBodies.contents c.give_up_all.new.bodies) (g.B.StoredBodies.uses c.give_up_all.new.bodies) (c.args.next +ℤ pos 1)
+    (λ _. UploadAdded c.args.key.now c.args.id c.args.upload.now) c.in-Ok.gone.items (rw (to_z-of_z c.ranges.next) at c.in-Ok.ensures.ok) refl
+    (rw c.deref.ensures.value at c.give_up_all.ensures.uses) c.give_up_all.ensures.contents
 
-pub returns-in-Err : goal.returns-in-Err
-returns-in-Err g c = record {
-  changes = rw c.in-Err.ensures.err
-      (is_same (g.R.StoredRows.tables c.args.rows.now) (g.B.StoredBodies.contents c.args.bodies.now) (g.B.StoredBodies.uses c.args.bodies.now) c.args.next c.requires.kept c.args.bucket.now _ _);
-}
+pub returns-in-Err-clause-changes : goal.returns-in-Err-clause-changes
+returns-in-Err-clause-changes g c =
+    rw c.in-Err.ensures.err
+    (is_same (g.R.StoredRows.tables c.args.rows.now) (g.B.StoredBodies.contents c.args.bodies.now) (g.B.StoredBodies.uses c.args.bodies.now) c.args.next c.requires.kept c.args.bucket.now _ _)

@@ -12,8 +12,8 @@ give_up_all-requires g c =
     (sent_numbers (g.R.StoredRows.tables c.args.rows.now) (upload_of_id c.args.bucket.now c.args.key.now (pos c.args.id) (g.R.StoredRows.tables c.args.rows.now))) c.deref.result.now
     c.requires.kept.named c.in-Ok.ensures.ok.trades (c.deref.ensures.value ∙ c.requires.names)
 
-pub returns-in-Ok : goal.returns-in-Ok
-returns-in-Ok g c =
+pub returns-in-Ok-clause-changes : goal.returns-in-Ok-clause-changes
+returns-in-Ok-clause-changes g c =
     let t = g.R.StoredRows.tables c.args.rows.now in
     let found = upload_of_id c.args.bucket.now c.args.key.now (pos c.args.id) t in
     is_gone t (g.B.StoredBodies.contents c.args.bodies.now) (g.B.StoredBodies.uses c.args.bodies.now) c.args.next c.requires.kept c.args.bucket.now _

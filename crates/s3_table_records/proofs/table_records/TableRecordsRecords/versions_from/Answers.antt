@@ -1,4 +1,8 @@
+use Rattle.s3_table_records.proofs.LeavingLemmas.{stays_known}
 use Rattle.s3_table_records.proofs.table_records.TableRecordsRecords.versions_from.Goals as goal
 
 pub returns-clause-value : goal.returns-clause-value
 returns-clause-value g c = rw (← c.self.view_is) (c.versions_from.ensures.value (g.B.StoredBodies.contents c.self.inside.bodies))
+
+pub returns-clause-stays : goal.returns-clause-stays
+returns-clause-stays g c = rw (← c.self.view_is) (stays_known c.versions_from.ensures.stays (λ n bytes did. did))

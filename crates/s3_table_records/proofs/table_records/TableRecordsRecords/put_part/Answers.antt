@@ -1,0 +1,5 @@
+use Rattle.s3_table_records.proofs.LeavingLemmas.{stays_known}
+use Rattle.s3_table_records.proofs.table_records.TableRecordsRecords.put_part.Goals as goal
+
+pub returns-clause-stays : goal.returns-clause-stays
+returns-clause-stays g c = rw (← c.self.view_is) (stays_known c.put_part-put.ensures.stays c.put_part-put.ensures.outlives)

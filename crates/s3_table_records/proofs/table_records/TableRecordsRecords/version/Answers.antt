@@ -1,0 +1,5 @@
+use Rattle.s3_table_records.proofs.LeavingLemmas.{stays_known}
+use Rattle.s3_table_records.proofs.table_records.TableRecordsRecords.version.Goals as goal
+
+pub returns-clause-stays : goal.returns-clause-stays
+returns-clause-stays g c = rw (← c.self.view_is) (stays_known c.version.ensures.stays c.version.ensures.outlives)
