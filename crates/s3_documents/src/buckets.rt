@@ -49,8 +49,7 @@ impl Row for ListedBucket {
     ghost told = { bucket_row };
 
     fn print(&self, printer: &mut Printer) -> Result<(), AllocError> {
-        printer.row(&row_of(self))?;
-        Ok(())
+        printer.row(&row_of(self))
     }
 }
 

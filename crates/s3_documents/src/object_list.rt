@@ -270,8 +270,7 @@ impl Row for ListedObject {
 
     fn print(&self, printer: &mut Printer) -> Result<(), AllocError> {
         let tag = quoted(&self.facts.tag);
-        printer.row(&object_fields(self, text_of(tag.as_slice())))?;
-        Ok(())
+        printer.row(&object_fields(self, text_of(tag.as_slice())))
     }
 }
 
@@ -302,8 +301,7 @@ impl Row for Text {
     ghost told = { prefix_row };
 
     fn print(&self, printer: &mut Printer) -> Result<(), AllocError> {
-        printer.row(&prefix_fields(self))?;
-        Ok(())
+        printer.row(&prefix_fields(self))
     }
 }
 
