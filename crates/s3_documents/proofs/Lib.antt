@@ -11,6 +11,7 @@ pub mod PrinterLemmas
 pub mod ReadBackLemmas
 pub mod RoomLemmas
 pub mod RowLemmas
+pub mod SequenceLemmas
 pub mod TokenLemmas
 pub mod XmlFrameLemmas
 pub mod XmlLemmas
