@@ -1,5 +1,6 @@
 pub mod CallLemmas
 pub mod CopyLemmas
+pub mod DispatchLemmas
 pub mod SourceLemmas
 pub mod StepLemmas
 pub mod UploadLemmas
