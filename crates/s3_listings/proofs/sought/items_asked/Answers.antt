@@ -85,3 +85,27 @@ loop-place-preserved g c =
           (c.stand_by_key.ensures.behind catalogue c.args.bucket.now wanted.marker.now wanted.id) c.args.most c.loop-place.place c.in_ok-rows.rows.items some
           c.loop-place.items.items c.take_rows.new.items.items c.in_ok-next.field-0 c.in-Some.next c.in-Some.is c.loop-place.invariant.known c.in_ok-next.ensures;
     }
+
+pub returns-in_err-rows-clause-same : goal.returns-in_err-rows-clause-same
+returns-in_err-rows-clause-same g c = c.enough_rows.ensures.same ∙ c.loop-place.invariant.same
+
+pub returns-in_err-rows-clause-stays : goal.returns-in_err-rows-clause-stays
+returns-in_err-rows-clause-stays g c = λ known is. c.enough_rows.ensures.stays known (c.loop-place.invariant.stays known is)
+
+pub returns-in_err-next-clause-same : goal.returns-in_err-next-clause-same
+returns-in_err-next-clause-same g c = c.enough_rows.ensures.same ∙ c.loop-place.invariant.same
+
+pub returns-in_err-next-clause-stays : goal.returns-in_err-next-clause-stays
+returns-in_err-next-clause-stays g c = λ known is. c.enough_rows.ensures.stays known (c.loop-place.invariant.stays known is)
+
+pub returns-in_default-clause-same : goal.returns-in_default-clause-same
+returns-in_default-clause-same g c = c.enough_rows.ensures.same ∙ c.loop-place.invariant.same
+
+pub returns-in_default-clause-stays : goal.returns-in_default-clause-stays
+returns-in_default-clause-stays g c = λ known is. c.enough_rows.ensures.stays known (c.loop-place.invariant.stays known is)
+
+pub returns-then-len-most-clause-same : goal.returns-then-len-most-clause-same
+returns-then-len-most-clause-same g c = c.enough_rows.ensures.same ∙ c.loop-place.invariant.same
+
+pub returns-then-len-most-clause-stays : goal.returns-then-len-most-clause-stays
+returns-then-len-most-clause-stays g c = λ known is. c.enough_rows.ensures.stays known (c.loop-place.invariant.stays known is)
