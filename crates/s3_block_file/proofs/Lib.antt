@@ -1,1 +1,3 @@
 pub mod CountLemmas
+pub mod UsesLemmas
+pub mod PieceLemmas

@@ -132,8 +132,7 @@ impl<D: Disk + Drop> BlockFile<D> {
         ensures cause { CountsFault result (D.Disk.faults (disk_of self.old)) (D.Disk.faults (disk_of self.new)) }
         ensures told { TellsRoom result (D.Disk.tally_of (disk_of self.old)).refused (D.Disk.tally_of (disk_of self.new)).refused }
     {
-        disk_calls::write(&mut self.disk, extent.offset() + from, piece)?;
-        Ok(())
+        disk_calls::write(&mut self.disk, extent.offset() + from, piece)
     }
 
     /// After it each crash leaves what a read returns now, so all that was put.
