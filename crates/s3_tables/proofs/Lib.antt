@@ -1,3 +1,4 @@
+pub mod Resolving
 pub mod Texts
 pub mod ListedLemmas
 pub mod StoredLemmas

@@ -12,10 +12,9 @@ use Rattle.sqlite.specs.Command.TheVariants.{CreateTable}
 use Rattle.sqlite.specs.Change.{created, next_tree}
 use Rattle.sqlite.specs.Does.{Tally, Does, lacks_sequence}
 use Rattle.sqlite.specs.Effect.{Database, IsDatabase}
-use Rattle.sqlite.specs.Listing.{understood}
 use Rattle.sqlite.specs.Held.{Held, state}
 use Rattle.sqlite.specs.State.{State, HasCleanDisk, Survives, ExecutesInside, KeepsCounts, Shows, Writes, mode_of}
-use Rattle.sqlite.proofs.Callers.{IsPlain, runs_as, survives_begin}
+use Rattle.sqlite.proofs.Callers.{runs_as, survives_begin}
 use Rattle.sqlite.proofs.StateLemmas.{survives_then}
 use Rattle.sqlite_catalog.specs.Change.{KeepsRows}
 use Rattle.s3_rows.specs.Columns.{StoreColumns, Tables, no_rows}
@@ -30,6 +29,7 @@ use Rattle.s3_tables.specs.Keeping.{tables, Inside, Advances, IsMade}
 use Rattle.s3_tables.specs.Making.{schema_before, schema_after, first_tables, SeesEmpty, HasBuilt, Builds, Fills}
 use Rattle.s3_tables.proofs.Texts as text
 use Rattle.s3_tables.proofs.Texts.{Makes}
+use Rattle.s3_tables.proofs.Resolving.{is_understood, is_whole}
 use Rattle.s3_tables.proofs.RowLemmas.{went, same_value}
 use Rattle.s3_tables.proofs.StoredLemmas.{tables_are, stores_all}
 use Rattle.s3_tables.proofs.StepLemmas.{IsSettled}
@@ -40,7 +40,7 @@ one_more_empty : (old new : Trees) (last : Table) (ts : List Table) → AllByRec
 one_more_empty old new last [] were kept empty = (empty, tt)
 one_more_empty old new last (t ∷ ts) were kept empty = (kept.0 ∙ were.0, one_more_empty old new last ts were.1 kept.1 empty)
 
-module _ (before : Schema) (sql : List ℕ) (table : Table) (makes : Makes before sql table) (plain : IsPlain (understood before sql)) (uncounted : lacks_sequence (created before table) ≡ false) where
+module _ (before : Schema) (sql : List ℕ) (table : Table) (makes : Makes before sql table) (uncounted : lacks_sequence (created before table) ≡ false) where
   creates : (base : Database) (s : State) (tally : Tally) (after : Database) → SeesEmpty base before s → Does s.step_limit (mode_of s) [] s.now sql None CreateTable (Ok (tally, after))
       → (after.schema ≡ created before table) × AllByRecursion (λ t. after.trees t.tree ≡ []) (created before table).tables
   creates base s tally after sees does =
@@ -61,7 +61,8 @@ module _ (before : Schema) (sql : List ℕ) (table : Table) (makes : Makes befor
 
   builds : (old new : State) (r : Result ℕ Error) → ExecutesInside 0 sql [] old new r → OnOk r ((base : Database) → SeesEmpty base before old → HasBuilt base (created before table) new)
   builds old new (Ok count) h = λ base sees.
-      let w = subst (λ t. Writes old new None CreateTable t [] count) makes.1 (runs_as sql [] old new before sees.schema_is CreateTable makes.0 plain count h.0) in
+      let is = is_understood before sql CreateTable makes.0 in
+      let w = subst (λ t. Writes old new None CreateTable t [] count) (is_whole before sql makes.1) (runs_as sql [] old new before sees.schema_is CreateTable is.0 is.1 count h.0) in
       let it = creates base old w.tally new.now sees w.changed in
       record {
         sees = record { schema_is = it.0; empty = it.1; committed = h.1.committed_is ∙ sees.committed };
@@ -88,11 +89,11 @@ module _ {S : Type 0} (g : Ghosts S) (old new : Held S) (r : Result ℕ Error) {
       ]
 
   pub table_created : (table : TableName) → Ran (create_text table) → Builds (schema_before table) (schema_after table) (state g old) (state g new) r
-  table_created Buckets = created_by no_schema spec.with_buckets text.create_buckets (builds no_schema text.create_buckets spec.bucket_table text.buckets_made text.buckets_made_plain refl (state g old) (state g new) r)
-  table_created Versions = created_by spec.with_buckets spec.with_versions text.create_versions (builds spec.with_buckets text.create_versions spec.version_table text.versions_made text.versions_made_plain refl (state g old) (state g new) r)
-  table_created Uploads = created_by spec.with_versions spec.with_uploads text.create_uploads (builds spec.with_versions text.create_uploads spec.upload_table text.uploads_made text.uploads_made_plain refl (state g old) (state g new) r)
-  table_created Parts = created_by spec.with_uploads spec.with_parts text.create_parts (builds spec.with_uploads text.create_parts spec.part_table text.parts_made text.parts_made_plain refl (state g old) (state g new) r)
-  table_created Store = created_by spec.with_parts schema text.create_store (builds spec.with_parts text.create_store spec.store_table text.store_made text.store_made_plain refl (state g old) (state g new) r)
+  table_created Buckets = created_by no_schema spec.with_buckets text.create_buckets (builds no_schema text.create_buckets spec.bucket_table text.buckets_made refl (state g old) (state g new) r)
+  table_created Versions = created_by spec.with_buckets spec.with_versions text.create_versions (builds spec.with_buckets text.create_versions spec.version_table text.versions_made refl (state g old) (state g new) r)
+  table_created Uploads = created_by spec.with_versions spec.with_uploads text.create_uploads (builds spec.with_versions text.create_uploads spec.upload_table text.uploads_made refl (state g old) (state g new) r)
+  table_created Parts = created_by spec.with_uploads spec.with_parts text.create_parts (builds spec.with_uploads text.create_parts spec.part_table text.parts_made refl (state g old) (state g new) r)
+  table_created Store = created_by spec.with_parts schema text.create_store (builds spec.with_parts text.create_store spec.store_table text.store_made refl (state g old) (state g new) r)
 
 -- ---- one after another
 

@@ -29,6 +29,7 @@ use Rattle.s3_stored_rows.specs.Queries as spec
 use Rattle.s3_tables.specs.Reading.{bucket_shown, version_shown, upload_shown, part_shown, store_shown}
 use Rattle.s3_tables.proofs.ReadTexts as text
 use Rattle.s3_tables.proofs.ReadTexts.{Asks}
+use Rattle.s3_tables.proofs.Resolving.{is_understood}
 use Rattle.s3_tables.proofs.AnswerLemmas.{by_row, by_order, any_found, one_found, first_one}
 
 -- which rows a query asks for
@@ -60,7 +61,9 @@ then_joined Equal b c = refl
 then_joined Greater b c = refl
 
 answer : (sql : List ℕ) (q : Query) (names : List (List ℕ)) → Asks sql q names → (params : Row) (old new : State) (rows : List Row) → Serves old × Shown sql params old new rows → IsAnswer q (overlay old.now.trees []) params rows
-answer sql q names asks params old new rows h = (reads_as sql params old new schema h.0.schema_is _ asks.0 asks.1 asks.2 rows h.1).answer Null
+answer sql q names asks params old new rows h =
+    let it = is_understood schema sql _ asks in
+    (reads_as sql params old new schema h.0.schema_is _ it.0 it.1 it.2 rows h.1).answer Null
 
 module _ (old new : State) (rows : List Row) where
   pub bucket_by_name_found : (name : List ℕ) → Serves old × Shown text.bucket_by_name (Blob name ∷ []) old new rows → option_map bucket_shown (slice_get rows 0) ≡ spec.bucket_named name (tables old)

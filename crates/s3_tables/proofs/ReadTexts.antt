@@ -1,9 +1,10 @@
 -- The texts of the queries, and what they mean.
-use Rattle.std.proofs.Common.{◌≡◌, ℕ, List, [], ◌∷◌, codes, true, false, None, refl, pos, negsuc}
+use Rattle.std.proofs.Common.{ℕ, List, [], ◌∷◌, codes, true, false, None, refl, pos, negsuc}
 use Rattle.sqlite.specs.Command.TheVariants.{Select}
 use Rattle.sqlite_tied.specs.Compute.{everything}
-use Rattle.sqlite.specs.Listing.{understood, reads_listing}
-use Rattle.sqlite.proofs.Callers.{IsPlain, command_of}
+use Rattle.sqlite.specs.Listing.{understood}
+use Rattle.sqlite.proofs.Callers.{IsPlain}
+use Rattle.sqlite_resolve.specs.Compile.{compiled}
 use Rattle.sqlite.specs.Term.{Term, lit, col, op2}
 use Rattle.sqlite.specs.Query.{Query, inner, end}
 use Rattle.sqlite.specs.declared.types.Value.TheVariants.{Int}
@@ -12,6 +13,7 @@ use Rattle.sqlite_sql.specs.declared.ops.CompareOp.TheVariants.{Eq, Lt, Gt, Ge}
 use Rattle.sqlite.specs.Collation.TheVariants.{Binary}
 use Rattle.sqlite_value.specs.declared.keys.Key.{Key}
 use Rattle.s3_tables.specs.Schema.{schema}
+use Rattle.s3_tables.proofs.Resolving.{Resolves, is_understood}
 
 -- a key of ORDER BY
 abbrev pub SortKey : Type 0
@@ -42,7 +44,10 @@ select_from tree tests project order limit = record {
 
 -- the text is this query, shows these names, and reads the tables alone
 abbrev pub Asks : List ℕ → Query → List (List ℕ) → Type 0
-Asks sql q names = (command_of (understood schema sql) ≡ Select (record { lets = []; body = q }) names) × IsPlain (understood schema sql) × (reads_listing schema sql ≡ false)
+Asks sql q names = Resolves (Select (record { lets = []; body = q }) names) (compiled schema sql)
+
+pub is_plain : (sql : List ℕ) (q : Query) (names : List (List ℕ)) → Asks sql q names → IsPlain (understood schema sql)
+is_plain sql q names asks = (is_understood schema sql _ asks).1
 
 abbrev pub bucket_names : List (List ℕ)
 bucket_names = codes "row" ∷ codes "name" ∷ codes "made" ∷ codes "mode" ∷ []
@@ -86,8 +91,8 @@ abbrev pub bucket_by_name_order : List SortKey
 bucket_by_name_order = rising (col 1 0) ∷ []
 
 pub bucket_by_name_is : Asks bucket_by_name (select_from 0 bucket_by_name_tests bucket_project bucket_by_name_order (lit (Int (pos 1)))) bucket_names
-unfolding understood everything
-bucket_by_name_is = (refl, (refl, refl), refl)
+unfolding everything
+bucket_by_name_is = (refl, refl, refl)
 
 -- ---- all buckets
 
@@ -101,8 +106,8 @@ abbrev pub all_buckets_order : List SortKey
 all_buckets_order = rising (col 1 2) ∷ rising (col 1 0) ∷ []
 
 pub all_buckets_is : Asks all_buckets (select_from 0 all_buckets_tests bucket_project all_buckets_order (lit (Int (negsuc 0)))) bucket_names
-unfolding understood everything
-all_buckets_is = (refl, (refl, refl), refl)
+unfolding everything
+all_buckets_is = (refl, refl, refl)
 
 -- ---- newest
 
@@ -116,8 +121,8 @@ abbrev pub newest_order : List SortKey
 newest_order = falling (col 1 4) ∷ rising (col 1 0) ∷ []
 
 pub newest_is : Asks newest (select_from 2 newest_tests version_project newest_order (lit (Int (pos 1)))) version_names
-unfolding understood everything
-newest_is = (refl, (refl, refl), refl)
+unfolding everything
+newest_is = (refl, refl, refl)
 
 -- ---- version by id
 
@@ -131,8 +136,8 @@ abbrev pub version_by_id_order : List SortKey
 version_by_id_order = rising (col 1 0) ∷ []
 
 pub version_by_id_is : Asks version_by_id (select_from 2 version_by_id_tests version_project version_by_id_order (lit (Int (pos 1)))) version_names
-unfolding understood everything
-version_by_id_is = (refl, (refl, refl), refl)
+unfolding everything
+version_by_id_is = (refl, refl, refl)
 
 -- ---- older
 
@@ -146,8 +151,8 @@ abbrev pub older_order : List SortKey
 older_order = falling (col 1 4) ∷ rising (col 1 0) ∷ []
 
 pub older_is : Asks older (select_from 2 older_tests version_project older_order (col 0 3)) version_names
-unfolding understood everything
-older_is = (refl, (refl, refl), refl)
+unfolding everything
+older_is = (refl, refl, refl)
 
 -- ---- versions on
 
@@ -161,8 +166,8 @@ abbrev pub versions_on_order : List SortKey
 versions_on_order = rising (col 1 3) ∷ falling (col 1 4) ∷ rising (col 1 0) ∷ []
 
 pub versions_on_is : Asks versions_on (select_from 2 versions_on_tests version_project versions_on_order (col 0 2)) version_names
-unfolding understood everything
-versions_on_is = (refl, (refl, refl), refl)
+unfolding everything
+versions_on_is = (refl, refl, refl)
 
 -- ---- versions past
 
@@ -176,8 +181,8 @@ abbrev pub versions_past_order : List SortKey
 versions_past_order = rising (col 1 3) ∷ falling (col 1 4) ∷ rising (col 1 0) ∷ []
 
 pub versions_past_is : Asks versions_past (select_from 2 versions_past_tests version_project versions_past_order (col 0 2)) version_names
-unfolding understood everything
-versions_past_is = (refl, (refl, refl), refl)
+unfolding everything
+versions_past_is = (refl, refl, refl)
 
 -- ---- upload by id
 
@@ -191,8 +196,8 @@ abbrev pub upload_by_id_order : List SortKey
 upload_by_id_order = rising (col 1 0) ∷ []
 
 pub upload_by_id_is : Asks upload_by_id (select_from 5 upload_by_id_tests upload_project upload_by_id_order (lit (Int (pos 1)))) upload_names
-unfolding understood everything
-upload_by_id_is = (refl, (refl, refl), refl)
+unfolding everything
+upload_by_id_is = (refl, refl, refl)
 
 -- ---- uploads on
 
@@ -206,8 +211,8 @@ abbrev pub uploads_on_order : List SortKey
 uploads_on_order = rising (col 1 3) ∷ rising (col 1 4) ∷ rising (col 1 0) ∷ []
 
 pub uploads_on_is : Asks uploads_on (select_from 5 uploads_on_tests upload_project uploads_on_order (col 0 2)) upload_names
-unfolding understood everything
-uploads_on_is = (refl, (refl, refl), refl)
+unfolding everything
+uploads_on_is = (refl, refl, refl)
 
 -- ---- uploads past
 
@@ -221,8 +226,8 @@ abbrev pub uploads_past_order : List SortKey
 uploads_past_order = rising (col 1 3) ∷ rising (col 1 4) ∷ rising (col 1 0) ∷ []
 
 pub uploads_past_is : Asks uploads_past (select_from 5 uploads_past_tests upload_project uploads_past_order (col 0 2)) upload_names
-unfolding understood everything
-uploads_past_is = (refl, (refl, refl), refl)
+unfolding everything
+uploads_past_is = (refl, refl, refl)
 
 -- ---- later uploads
 
@@ -236,8 +241,8 @@ abbrev pub later_uploads_order : List SortKey
 later_uploads_order = rising (col 1 4) ∷ rising (col 1 0) ∷ []
 
 pub later_uploads_is : Asks later_uploads (select_from 5 later_uploads_tests upload_project later_uploads_order (col 0 3)) upload_names
-unfolding understood everything
-later_uploads_is = (refl, (refl, refl), refl)
+unfolding everything
+later_uploads_is = (refl, refl, refl)
 
 -- ---- part by number
 
@@ -251,8 +256,8 @@ abbrev pub part_by_number_order : List SortKey
 part_by_number_order = rising (col 1 0) ∷ []
 
 pub part_by_number_is : Asks part_by_number (select_from 7 part_by_number_tests part_project part_by_number_order (lit (Int (pos 1)))) part_names
-unfolding understood everything
-part_by_number_is = (refl, (refl, refl), refl)
+unfolding everything
+part_by_number_is = (refl, refl, refl)
 
 -- ---- later parts
 
@@ -266,8 +271,8 @@ abbrev pub later_parts_order : List SortKey
 later_parts_order = rising (col 1 3) ∷ rising (col 1 0) ∷ []
 
 pub later_parts_is : Asks later_parts (select_from 7 later_parts_tests part_project later_parts_order (col 0 2)) part_names
-unfolding understood everything
-later_parts_is = (refl, (refl, refl), refl)
+unfolding everything
+later_parts_is = (refl, refl, refl)
 
 -- ---- the store
 
@@ -281,8 +286,8 @@ abbrev pub the_store_order : List SortKey
 the_store_order = rising (col 1 0) ∷ []
 
 pub the_store_is : Asks the_store (select_from 9 the_store_tests store_project the_store_order (lit (Int (pos 1)))) store_names
-unfolding understood everything
-the_store_is = (refl, (refl, refl), refl)
+unfolding everything
+the_store_is = (refl, refl, refl)
 
 -- ---- any version
 
@@ -293,8 +298,8 @@ abbrev pub any_version_tests : List Term
 any_version_tests = op2 (Compare Eq Binary) (col 1 2) (col 0 0) ∷ []
 
 pub any_version_is : Asks any_version (select_from 2 any_version_tests (col 1 0 ∷ []) [] (lit (Int (pos 1)))) (codes "row" ∷ [])
-unfolding understood everything
-any_version_is = (refl, (refl, refl), refl)
+unfolding everything
+any_version_is = (refl, refl, refl)
 
 -- ---- any upload
 
@@ -305,5 +310,5 @@ abbrev pub any_upload_tests : List Term
 any_upload_tests = op2 (Compare Eq Binary) (col 1 2) (col 0 0) ∷ []
 
 pub any_upload_is : Asks any_upload (select_from 5 any_upload_tests (col 1 0 ∷ []) [] (lit (Int (pos 1)))) (codes "row" ∷ [])
-unfolding understood everything
-any_upload_is = (refl, (refl, refl), refl)
+unfolding everything
+any_upload_is = (refl, refl, refl)

@@ -17,12 +17,15 @@ use Rattle.s3_tables.specs.Keeping.{tables, Serves}
 use Rattle.s3_tables.specs.Reading.{bucket_shown, version_shown, upload_shown, part_shown, store_shown}
 use Rattle.s3_tables.proofs.ReadTexts as read
 use Rattle.s3_tables.proofs.ReadTexts.{Asks}
+use Rattle.s3_tables.proofs.Resolving.{is_understood}
 use Rattle.s3_tables.proofs.RowTexts as text
 use Rattle.s3_tables.proofs.AnswerLemmas.{by_row}
 use Rattle.sqlite_typed.proofs.AnswerLemmas.{unfiltered}
 
 answer : (sql : List ℕ) (q : Query) (names : List (List ℕ)) → Asks sql q names → (old new : State) (rows : List Row) → Serves old × Shown sql [] old new rows → IsAnswer q (overlay old.now.trees []) [] rows
-answer sql q names asks old new rows h = (reads_as sql [] old new schema h.0.schema_is _ asks.0 asks.1 asks.2 rows h.1).answer Null
+answer sql q names asks old new rows h =
+    let it = is_understood schema sql _ asks in
+    (reads_as sql [] old new schema h.0.schema_is _ it.0 it.1 it.2 rows h.1).answer Null
 
 module _ (old new : State) (rows : List Row) where
   pub bucket_rows_found : Serves old × Shown text.bucket_rows [] old new rows → map bucket_shown rows ≡ (tables old).buckets

@@ -60,61 +60,61 @@ module _ {S : Type 0} (g : Ghosts S) (old new : Held S) (r : Result ℕ Error) {
   Ran sql params = HasCleanDisk (state g new) → IsTrue old.in_transaction → ExecutesInside 0 sql params (state g old) (state g new) r
 
   pub bucket_added : (x : BucketColumns) → Ran text.add_bucket (bucket_params x) → Advances (with_bucket x) (state g old) (state g new) r
-  bucket_added x ran = advances g old new text.add_bucket (bucket_params x) r (Insert 0 text.bucket_source) text.add_bucket_is text.add_bucket_plain (record { runs = λ _ _ _ _ _ w. w }) (with_bucket x)
+  bucket_added x ran = advances g old new text.add_bucket (bucket_params x) r (Insert 0 text.bucket_source) text.add_bucket_is (record { runs = λ _ _ _ _ _ w. w }) (with_bucket x)
       (λ t sql tally after has was does sound. buckets_edited (state g old).now.trees after t was _ (IsKeyedBy-insert_by bucket_row t.buckets x was.buckets.keyed)
       (inserts bucket_row bucket_cells 0 (λ _. refl) (codes "buckets") bucket_list bucket_keys bucket_orders 0 refl (state g old) x t.buckets text.bucket_terms 5 (bucket_params x) sql tally after refl (bucket_fits x) has was.buckets does sound))
       ended ran survives
 
   pub bucket_dropped : (id : ℤ) → Ran text.drop_bucket (Int id ∷ []) → Advances (without_row Buckets id) (state g old) (state g new) r
-  bucket_dropped id ran = advances g old new text.drop_bucket (Int id ∷ []) r (text.drop_command 0 0) text.drop_bucket_is text.drop_bucket_plain (record { runs = λ _ _ _ _ _ w. w }) (without_row Buckets id)
+  bucket_dropped id ran = advances g old new text.drop_bucket (Int id ∷ []) r (text.drop_command 0 0) text.drop_bucket_is (record { runs = λ _ _ _ _ _ w. w }) (without_row Buckets id)
       (λ t sql tally after has was does sound. buckets_edited (state g old).now.trees after t was _ (IsKeyedBy-delete_where bucket_row (λ x. int_eq (bucket_row x) id) t.buckets was.buckets.keyed)
       (drops bucket_row bucket_cells 0 (λ _. refl) (codes "buckets") bucket_list bucket_keys bucket_orders 0 refl (state g old) id t.buckets sql tally after has was.buckets does sound))
       ended ran survives
 
   pub version_added : (x : VersionColumns) → Ran text.add_version (version_params x) → Advances (with_version x) (state g old) (state g new) r
-  version_added x ran = advances g old new text.add_version (version_params x) r (Insert 1 text.version_source) text.add_version_is text.add_version_plain (record { runs = λ _ _ _ _ _ w. w }) (with_version x)
+  version_added x ran = advances g old new text.add_version (version_params x) r (Insert 1 text.version_source) text.add_version_is (record { runs = λ _ _ _ _ _ w. w }) (with_version x)
       (λ t sql tally after has was does sound. versions_edited (state g old).now.trees after t was _ (IsKeyedBy-insert_by version_row t.versions x was.versions.keyed)
       (inserts version_row version_cells 2 (λ _. refl) (codes "versions") version_list version_keys version_orders 1 refl (state g old) x t.versions text.version_terms 12 (version_params x) sql tally after refl (version_fits x) has was.versions does sound))
       ended ran survives
 
   pub version_dropped : (id : ℤ) → Ran text.drop_version (Int id ∷ []) → Advances (without_row Versions id) (state g old) (state g new) r
-  version_dropped id ran = advances g old new text.drop_version (Int id ∷ []) r (text.drop_command 1 2) text.drop_version_is text.drop_version_plain (record { runs = λ _ _ _ _ _ w. w }) (without_row Versions id)
+  version_dropped id ran = advances g old new text.drop_version (Int id ∷ []) r (text.drop_command 1 2) text.drop_version_is (record { runs = λ _ _ _ _ _ w. w }) (without_row Versions id)
       (λ t sql tally after has was does sound. versions_edited (state g old).now.trees after t was _ (IsKeyedBy-delete_where version_row (λ x. int_eq (version_row x) id) t.versions was.versions.keyed)
       (drops version_row version_cells 2 (λ _. refl) (codes "versions") version_list version_keys version_orders 1 refl (state g old) id t.versions sql tally after has was.versions does sound))
       ended ran survives
 
   pub upload_added : (x : UploadColumns) → Ran text.add_upload (upload_params x) → Advances (with_upload x) (state g old) (state g new) r
-  upload_added x ran = advances g old new text.add_upload (upload_params x) r (Insert 2 text.upload_source) text.add_upload_is text.add_upload_plain (record { runs = λ _ _ _ _ _ w. w }) (with_upload x)
+  upload_added x ran = advances g old new text.add_upload (upload_params x) r (Insert 2 text.upload_source) text.add_upload_is (record { runs = λ _ _ _ _ _ w. w }) (with_upload x)
       (λ t sql tally after has was does sound. uploads_edited (state g old).now.trees after t was _ (IsKeyedBy-insert_by upload_row t.uploads x was.uploads.keyed)
       (inserts upload_row upload_cells 5 (λ _. refl) (codes "uploads") upload_list upload_keys upload_orders 2 refl (state g old) x t.uploads text.upload_terms 7 (upload_params x) sql tally after refl (upload_fits x) has was.uploads does sound))
       ended ran survives
 
   pub upload_dropped : (id : ℤ) → Ran text.drop_upload (Int id ∷ []) → Advances (without_row Uploads id) (state g old) (state g new) r
-  upload_dropped id ran = advances g old new text.drop_upload (Int id ∷ []) r (text.drop_command 2 5) text.drop_upload_is text.drop_upload_plain (record { runs = λ _ _ _ _ _ w. w }) (without_row Uploads id)
+  upload_dropped id ran = advances g old new text.drop_upload (Int id ∷ []) r (text.drop_command 2 5) text.drop_upload_is (record { runs = λ _ _ _ _ _ w. w }) (without_row Uploads id)
       (λ t sql tally after has was does sound. uploads_edited (state g old).now.trees after t was _ (IsKeyedBy-delete_where upload_row (λ x. int_eq (upload_row x) id) t.uploads was.uploads.keyed)
       (drops upload_row upload_cells 5 (λ _. refl) (codes "uploads") upload_list upload_keys upload_orders 2 refl (state g old) id t.uploads sql tally after has was.uploads does sound))
       ended ran survives
 
   pub part_added : (x : PartColumns) → Ran text.add_part (part_params x) → Advances (with_part x) (state g old) (state g new) r
-  part_added x ran = advances g old new text.add_part (part_params x) r (Insert 3 text.part_source) text.add_part_is text.add_part_plain (record { runs = λ _ _ _ _ _ w. w }) (with_part x)
+  part_added x ran = advances g old new text.add_part (part_params x) r (Insert 3 text.part_source) text.add_part_is (record { runs = λ _ _ _ _ _ w. w }) (with_part x)
       (λ t sql tally after has was does sound. parts_edited (state g old).now.trees after t was _ (IsKeyedBy-insert_by part_row t.parts x was.parts.keyed)
       (inserts part_row part_cells 7 (λ _. refl) (codes "parts") part_list part_keys part_orders 3 refl (state g old) x t.parts text.part_terms 8 (part_params x) sql tally after refl (part_fits x) has was.parts does sound))
       ended ran survives
 
   pub part_dropped : (id : ℤ) → Ran text.drop_part (Int id ∷ []) → Advances (without_row Parts id) (state g old) (state g new) r
-  part_dropped id ran = advances g old new text.drop_part (Int id ∷ []) r (text.drop_command 3 7) text.drop_part_is text.drop_part_plain (record { runs = λ _ _ _ _ _ w. w }) (without_row Parts id)
+  part_dropped id ran = advances g old new text.drop_part (Int id ∷ []) r (text.drop_command 3 7) text.drop_part_is (record { runs = λ _ _ _ _ _ w. w }) (without_row Parts id)
       (λ t sql tally after has was does sound. parts_edited (state g old).now.trees after t was _ (IsKeyedBy-delete_where part_row (λ x. int_eq (part_row x) id) t.parts was.parts.keyed)
       (drops part_row part_cells 7 (λ _. refl) (codes "parts") part_list part_keys part_orders 3 refl (state g old) id t.parts sql tally after has was.parts does sound))
       ended ran survives
 
   pub store_added : (x : StoreColumns) → Ran text.add_store (store_params x) → Advances (with_store x) (state g old) (state g new) r
-  store_added x ran = advances g old new text.add_store (store_params x) r (Insert 4 text.store_source) text.add_store_is text.add_store_plain (record { runs = λ _ _ _ _ _ w. w }) (with_store x)
+  store_added x ran = advances g old new text.add_store (store_params x) r (Insert 4 text.store_source) text.add_store_is (record { runs = λ _ _ _ _ _ w. w }) (with_store x)
       (λ t sql tally after has was does sound. store_edited (state g old).now.trees after t was _ (IsKeyedBy-insert_by store_row t.store x was.store.keyed)
       (inserts store_row store_cells 9 (λ _. refl) (codes "store") store_list store_keys store_orders 4 refl (state g old) x t.store text.store_terms 4 (store_params x) sql tally after refl (store_fits x) has was.store does sound))
       ended ran survives
 
   pub store_dropped : (id : ℤ) → Ran text.drop_store (Int id ∷ []) → Advances (without_row Store id) (state g old) (state g new) r
-  store_dropped id ran = advances g old new text.drop_store (Int id ∷ []) r (text.drop_command 4 9) text.drop_store_is text.drop_store_plain (record { runs = λ _ _ _ _ _ w. w }) (without_row Store id)
+  store_dropped id ran = advances g old new text.drop_store (Int id ∷ []) r (text.drop_command 4 9) text.drop_store_is (record { runs = λ _ _ _ _ _ w. w }) (without_row Store id)
       (λ t sql tally after has was does sound. store_edited (state g old).now.trees after t was _ (IsKeyedBy-delete_where store_row (λ x. int_eq (store_row x) id) t.store was.store.keyed)
       (drops store_row store_cells 9 (λ _. refl) (codes "store") store_list store_keys store_orders 4 refl (state g old) id t.store sql tally after has was.store does sound))
       ended ran survives

@@ -4,8 +4,7 @@ use Rattle.sqlite.specs.Command.{Command}
 use Rattle.sqlite.specs.Command.TheVariants.{Insert, Delete, CreateTable}
 use Rattle.sqlite.specs.Compile.{table_defined_by}
 use Rattle.sqlite_tied.specs.Compute.{everything}
-use Rattle.sqlite.specs.Listing.{understood}
-use Rattle.sqlite.proofs.Callers.{IsPlain, command_of, statement_of}
+use Rattle.sqlite_resolve.specs.Compile.{compiled}
 use Rattle.sqlite.specs.Schema.{Schema}
 use Rattle.sqlite.specs.Table.{Table}
 use Rattle.sqlite.specs.Term.{Term, lit, col, op2}
@@ -20,12 +19,13 @@ use Rattle.s3_stored_rows.specs.declared.rows.TableName.TheVariants.{Buckets, Ve
 use Rattle.s3_tables.specs.Statements.{create_text, drop_text}
 use Rattle.s3_tables.specs.Schema as spec
 use Rattle.s3_tables.specs.Schema.{schema}
+use Rattle.s3_tables.proofs.Resolving.{Resolves, IsWhole}
 
 -- ---- CREATE TABLE
 
 -- a statement that makes a table: what is read in it, the whole text, and the table
 abbrev pub Makes : Schema → List ℕ → Table → Type 0
-Makes before text table = (command_of (understood before text) ≡ CreateTable) × (statement_of text (understood before text) ≡ text) × (table_defined_by text ≡ Ok table)
+Makes before text table = Resolves CreateTable (compiled before text) × IsWhole text (compiled before text) × (table_defined_by text ≡ Ok table)
 
 abbrev pub create_buckets : List ℕ
 create_buckets = create_text Buckets
@@ -43,44 +43,24 @@ abbrev pub create_store : List ℕ
 create_store = create_text Store
 
 pub buckets_made : Makes spec.no_schema create_buckets spec.bucket_table
-unfolding understood everything
-buckets_made = (refl, refl, refl)
-
-pub buckets_made_plain : IsPlain (understood spec.no_schema create_buckets)
-unfolding understood everything
-buckets_made_plain = (refl, refl)
+unfolding everything
+buckets_made = ((refl, refl, refl), refl, refl)
 
 pub versions_made : Makes spec.with_buckets create_versions spec.version_table
-unfolding understood everything
-versions_made = (refl, refl, refl)
-
-pub versions_made_plain : IsPlain (understood spec.with_buckets create_versions)
-unfolding understood everything
-versions_made_plain = (refl, refl)
+unfolding everything
+versions_made = ((refl, refl, refl), refl, refl)
 
 pub uploads_made : Makes spec.with_versions create_uploads spec.upload_table
-unfolding understood everything
-uploads_made = (refl, refl, refl)
-
-pub uploads_made_plain : IsPlain (understood spec.with_versions create_uploads)
-unfolding understood everything
-uploads_made_plain = (refl, refl)
+unfolding everything
+uploads_made = ((refl, refl, refl), refl, refl)
 
 pub parts_made : Makes spec.with_uploads create_parts spec.part_table
-unfolding understood everything
-parts_made = (refl, refl, refl)
-
-pub parts_made_plain : IsPlain (understood spec.with_uploads create_parts)
-unfolding understood everything
-parts_made_plain = (refl, refl)
+unfolding everything
+parts_made = ((refl, refl, refl), refl, refl)
 
 pub store_made : Makes spec.with_parts create_store spec.store_table
-unfolding understood everything
-store_made = (refl, refl, refl)
-
-pub store_made_plain : IsPlain (understood spec.with_parts create_store)
-unfolding understood everything
-store_made_plain = (refl, refl)
+unfolding everything
+store_made = ((refl, refl, refl), refl, refl)
 
 -- ---- INSERT
 
@@ -93,13 +73,9 @@ bucket_terms = col 0 0 ∷ lit Null ∷ col 0 1 ∷ col 0 2 ∷ col 0 3 ∷ []
 abbrev pub bucket_source : Source
 bucket_source = Values bucket_terms 5
 
-pub add_bucket_is : command_of (understood schema add_bucket) ≡ Insert 0 bucket_source
-unfolding understood everything
-add_bucket_is = refl
-
-pub add_bucket_plain : IsPlain (understood schema add_bucket)
-unfolding understood everything
-add_bucket_plain = (refl, refl)
+pub add_bucket_is : Resolves (Insert 0 bucket_source) (compiled schema add_bucket)
+unfolding everything
+add_bucket_is = (refl, refl, refl)
 
 abbrev pub add_version : List ℕ
 add_version = codes "INSERT INTO versions (row, bucket, key, number, id, moment, marker, tag, kept, size, bodies) VALUES (?1, ?2, ?3, ?4, ?5, ?6, ?7, ?8, ?9, ?10, ?11)"
@@ -110,13 +86,9 @@ version_terms = col 0 0 ∷ lit Null ∷ col 0 1 ∷ col 0 2 ∷ col 0 3 ∷ col
 abbrev pub version_source : Source
 version_source = Values version_terms 12
 
-pub add_version_is : command_of (understood schema add_version) ≡ Insert 1 version_source
-unfolding understood everything
-add_version_is = refl
-
-pub add_version_plain : IsPlain (understood schema add_version)
-unfolding understood everything
-add_version_plain = (refl, refl)
+pub add_version_is : Resolves (Insert 1 version_source) (compiled schema add_version)
+unfolding everything
+add_version_is = (refl, refl, refl)
 
 abbrev pub add_upload : List ℕ
 add_upload = codes "INSERT INTO uploads (row, bucket, key, id, moment, kept) VALUES (?1, ?2, ?3, ?4, ?5, ?6)"
@@ -127,13 +99,9 @@ upload_terms = col 0 0 ∷ lit Null ∷ col 0 1 ∷ col 0 2 ∷ col 0 3 ∷ col 
 abbrev pub upload_source : Source
 upload_source = Values upload_terms 7
 
-pub add_upload_is : command_of (understood schema add_upload) ≡ Insert 2 upload_source
-unfolding understood everything
-add_upload_is = refl
-
-pub add_upload_plain : IsPlain (understood schema add_upload)
-unfolding understood everything
-add_upload_plain = (refl, refl)
+pub add_upload_is : Resolves (Insert 2 upload_source) (compiled schema add_upload)
+unfolding everything
+add_upload_is = (refl, refl, refl)
 
 abbrev pub add_part : List ℕ
 add_part = codes "INSERT INTO parts (row, upload, part, digest, moment, size, bodies) VALUES (?1, ?2, ?3, ?4, ?5, ?6, ?7)"
@@ -144,13 +112,9 @@ part_terms = col 0 0 ∷ lit Null ∷ col 0 1 ∷ col 0 2 ∷ col 0 3 ∷ col 0 
 abbrev pub part_source : Source
 part_source = Values part_terms 8
 
-pub add_part_is : command_of (understood schema add_part) ≡ Insert 3 part_source
-unfolding understood everything
-add_part_is = refl
-
-pub add_part_plain : IsPlain (understood schema add_part)
-unfolding understood everything
-add_part_plain = (refl, refl)
+pub add_part_is : Resolves (Insert 3 part_source) (compiled schema add_part)
+unfolding everything
+add_part_is = (refl, refl, refl)
 
 abbrev pub add_store : List ℕ
 add_store = codes "INSERT INTO store (row, form, number) VALUES (?1, ?2, ?3)"
@@ -161,13 +125,9 @@ store_terms = col 0 0 ∷ lit Null ∷ col 0 1 ∷ col 0 2 ∷ []
 abbrev pub store_source : Source
 store_source = Values store_terms 4
 
-pub add_store_is : command_of (understood schema add_store) ≡ Insert 4 store_source
-unfolding understood everything
-add_store_is = refl
-
-pub add_store_plain : IsPlain (understood schema add_store)
-unfolding understood everything
-add_store_plain = (refl, refl)
+pub add_store_is : Resolves (Insert 4 store_source) (compiled schema add_store)
+unfolding everything
+add_store_is = (refl, refl, refl)
 
 -- ---- DELETE
 
@@ -191,54 +151,34 @@ drop_command at tree = Delete at (record { lets = []; body = row_query tree })
 abbrev pub drop_bucket : List ℕ
 drop_bucket = drop_text Buckets
 
-pub drop_bucket_is : command_of (understood schema drop_bucket) ≡ drop_command 0 0
-unfolding understood everything
-drop_bucket_is = refl
-
-pub drop_bucket_plain : IsPlain (understood schema drop_bucket)
-unfolding understood everything
-drop_bucket_plain = (refl, refl)
+pub drop_bucket_is : Resolves (drop_command 0 0) (compiled schema drop_bucket)
+unfolding everything
+drop_bucket_is = (refl, refl, refl)
 
 abbrev pub drop_version : List ℕ
 drop_version = drop_text Versions
 
-pub drop_version_is : command_of (understood schema drop_version) ≡ drop_command 1 2
-unfolding understood everything
-drop_version_is = refl
-
-pub drop_version_plain : IsPlain (understood schema drop_version)
-unfolding understood everything
-drop_version_plain = (refl, refl)
+pub drop_version_is : Resolves (drop_command 1 2) (compiled schema drop_version)
+unfolding everything
+drop_version_is = (refl, refl, refl)
 
 abbrev pub drop_upload : List ℕ
 drop_upload = drop_text Uploads
 
-pub drop_upload_is : command_of (understood schema drop_upload) ≡ drop_command 2 5
-unfolding understood everything
-drop_upload_is = refl
-
-pub drop_upload_plain : IsPlain (understood schema drop_upload)
-unfolding understood everything
-drop_upload_plain = (refl, refl)
+pub drop_upload_is : Resolves (drop_command 2 5) (compiled schema drop_upload)
+unfolding everything
+drop_upload_is = (refl, refl, refl)
 
 abbrev pub drop_part : List ℕ
 drop_part = drop_text Parts
 
-pub drop_part_is : command_of (understood schema drop_part) ≡ drop_command 3 7
-unfolding understood everything
-drop_part_is = refl
-
-pub drop_part_plain : IsPlain (understood schema drop_part)
-unfolding understood everything
-drop_part_plain = (refl, refl)
+pub drop_part_is : Resolves (drop_command 3 7) (compiled schema drop_part)
+unfolding everything
+drop_part_is = (refl, refl, refl)
 
 abbrev pub drop_store : List ℕ
 drop_store = drop_text Store
 
-pub drop_store_is : command_of (understood schema drop_store) ≡ drop_command 4 9
-unfolding understood everything
-drop_store_is = refl
-
-pub drop_store_plain : IsPlain (understood schema drop_store)
-unfolding understood everything
-drop_store_plain = (refl, refl)
+pub drop_store_is : Resolves (drop_command 4 9) (compiled schema drop_store)
+unfolding everything
+drop_store_is = (refl, refl, refl)

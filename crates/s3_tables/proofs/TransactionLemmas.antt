@@ -10,16 +10,17 @@ use Rattle.sqlite_trees.specs.declared.store.Store.{Ghosts}
 use Rattle.sqlite.specs.declared.error.Error.{Error}
 use Rattle.sqlite.specs.Effect.{Database, IsDatabase}
 use Rattle.sqlite.specs.Does.{Tally, Does}
-use Rattle.sqlite.specs.Listing.{understood}
+use Rattle.sqlite_resolve.specs.Compile.{compiled}
 use Rattle.sqlite.specs.Held.{Held, state}
 use Rattle.sqlite.specs.Steps.{FailsToCommit}
 use Rattle.sqlite.specs.State.{State, HasCleanDisk, IsUnchanged, IsRolledBack, KeepsCommit, KeepsCounts, Shows, Survives, Writes, Runs, ExecutesInside, mode_of}
-use Rattle.sqlite.proofs.Callers.{IsPlain, command_of, runs_as, survives_begin}
+use Rattle.sqlite.proofs.Callers.{runs_as, survives_begin}
 use Rattle.sqlite.proofs.StateLemmas.{survives_then, survives_weaker}
 use Rattle.s3_rows.specs.Columns.{Tables}
 use Rattle.s3_tables.specs.Schema.{schema}
 use Rattle.s3_tables.specs.Stored.{Stores, tables_in}
 use Rattle.s3_tables.specs.Keeping.{tables, Serves, Keeps, MayBecome, Steps, Inside, Advances}
+use Rattle.s3_tables.proofs.Resolving.{Resolves, is_understood}
 use Rattle.s3_tables.proofs.StoredLemmas.{tables_are, stores_all}
 use Rattle.s3_tables.proofs.TableLemmas.{Stands}
 use Rattle.s3_tables.proofs.StepLemmas.{IsSettled, IsSame, keeps_same, left_alone, found_before}
@@ -49,27 +50,28 @@ abbrev pub Means : State → Command → Row → (Tables → Tables) → Type 0
 Means s command params change = (t : Tables) (text : List ℕ) (tally : Tally) (after : Database) → s.now.schema ≡ schema → Stores s.now.trees t
     → Does s.step_limit (mode_of s) params s.now text None command (Ok (tally, after)) → IsDatabase after → Stands after (change t)
 
-moves : (old new : State) (sql : List ℕ) (params : Row) (command : Command) → command_of (understood schema sql) ≡ command → IsPlain (understood schema sql) → IsWriter command → (change : Tables → Tables) → Means old command params change
+moves : (old new : State) (sql : List ℕ) (params : Row) (command : Command) → Resolves command (compiled schema sql) → IsWriter command → (change : Tables → Tables) → Means old command params change
     → (r : Result ℕ Error) → ExecutesInside 0 sql params old new r → OnOk r ((base : Database) (t : Tables) → Inside base t old → Inside base (change t) new)
-moves old new sql params command is plain writer change means (Ok count) h = λ base t was.
-    let w = writer.runs old new _ params count (runs_as sql params old new schema was.schema_is command is plain count h.0) in
+moves old new sql params command resolves writer change means (Ok count) h = λ base t was.
+    let is = is_understood schema sql command resolves in
+    let w = writer.runs old new _ params count (runs_as sql params old new schema was.schema_is command is.0 is.1 count h.0) in
     let it = means t _ w.tally new.now was.schema_is was.stores w.changed w.sound in
     record { is_open = h.1.is_open; in_transaction = h.1.mode; schema_is = it.0; stores = it.1; committed = h.1.committed_is ∙ was.committed }
-moves old new sql params command is plain writer change means (Err e) h = tt
+moves old new sql params command resolves writer change means (Err e) h = tt
 
 no_moves : (A : Type 0) (r : Result ℕ Error) {e : Error} → r ≡ Err e → OnOk r A
 no_moves A (Ok count) is = absurd cc
 no_moves A (Err e) is = tt
 
 module _ {S : Type 0} (g : Ghosts S) (old new : Held S) (sql : List ℕ) (params : Row) (r : Result ℕ Error) {stopped : Error} where
-  pub advances : (command : Command) → command_of (understood schema sql) ≡ command → IsPlain (understood schema sql) → IsWriter command → (change : Tables → Tables) → Means (state g old) command params change
+  pub advances : (command : Command) → Resolves command (compiled schema sql) → IsWriter command → (change : Tables → Tables) → Means (state g old) command params change
       → (old.in_transaction ≡ false → (r ≡ Err stopped) × (new ≡ old))
       → (HasCleanDisk (state g new) → IsTrue old.in_transaction → ExecutesInside 0 sql params (state g old) (state g new) r) → Survives (state g old) (state g new) (λ _. ⊥)
       → Advances change (state g old) (state g new) r
-  advances command is plain writer change means ended runs survives =
+  advances command resolves writer change means ended runs survives =
       elim (cases_Bool old.in_transaction) [
         | inl on ↦ record {
-          made = λ clean. moves (state g old) (state g new) sql params command is plain writer change means r (runs clean on);
+          made = λ clean. moves (state g old) (state g new) sql params command resolves writer change means r (runs clean on);
           kept = λ clean. keeps_commit (state g old) (state g new) sql params r (runs clean on);
           survives = survives;
         }

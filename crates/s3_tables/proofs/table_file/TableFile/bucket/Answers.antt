@@ -1,13 +1,13 @@
 use Rattle.std.specs.Prelude.{option_map}
 use Rattle.sqlite.specs.Held.{state}
 use Rattle.s3_stored_rows.specs.Changes.{bucket_columns}
-use Rattle.s3_tables.proofs.ReadTexts.{bucket_by_name_is}
+use Rattle.s3_tables.proofs.ReadTexts.{bucket_by_name_is, is_plain}
 use Rattle.s3_tables.proofs.ReadLemmas.{bucket_by_name_found}
 use Rattle.s3_tables.proofs.AnswerLemmas.{as_asked, on_ok}
 use Rattle.s3_tables.proofs.table_file.TableFile.bucket.Goals as goal
 
 pub query-requires : goal.query-requires
-query-requires g c = bucket_by_name_is.1
+query-requires g c = is_plain _ _ _ bucket_by_name_is
 
 pub returns-clause-value : goal.returns-clause-value
 returns-clause-value g c clean =

@@ -3,13 +3,13 @@ use Rattle.std.specs.declared.alloc.Global.{Global}
 use Rattle.s3_stored_rows.specs.declared.rows.StoredBucket.{StoredBucket}
 use Rattle.sqlite.specs.Held.{state}
 use Rattle.s3_stored_rows.specs.Changes.{bucket_columns}
-use Rattle.s3_tables.proofs.ReadTexts.{all_buckets_is}
+use Rattle.s3_tables.proofs.ReadTexts.{all_buckets_is, is_plain}
 use Rattle.s3_tables.proofs.ReadLemmas.{all_buckets_found}
 use Rattle.s3_tables.proofs.AnswerLemmas.{as_asked, on_ok}
 use Rattle.s3_tables.proofs.table_file.TableFile.buckets.Goals as goal
 
 pub query-requires : goal.query-requires
-query-requires g c = all_buckets_is.1
+query-requires g c = is_plain _ _ _ all_buckets_is
 
 pub returns-clause-value : goal.returns-clause-value
 returns-clause-value g c clean =

@@ -1,11 +1,11 @@
 use Rattle.std.proofs.Common.{◌∙◌}
 use Rattle.sqlite.specs.Held.{state}
-use Rattle.s3_tables.proofs.ReadTexts.{any_upload_is}
+use Rattle.s3_tables.proofs.ReadTexts.{any_upload_is, is_plain}
 use Rattle.s3_tables.proofs.ReadLemmas.{any_upload_found}
 use Rattle.s3_tables.proofs.table_file.TableFile.has_uploads.Goals as goal
 
 pub query-requires : goal.query-requires
-query-requires g c = any_upload_is.1
+query-requires g c = is_plain _ _ _ any_upload_is
 
 pub returns-clause-value : goal.returns-clause-value
 returns-clause-value g c clean =

@@ -1,11 +1,11 @@
 use Rattle.std.proofs.Common.{◌∙◌}
 use Rattle.sqlite.specs.Held.{state}
-use Rattle.s3_tables.proofs.ReadTexts.{any_version_is}
+use Rattle.s3_tables.proofs.ReadTexts.{any_version_is, is_plain}
 use Rattle.s3_tables.proofs.ReadLemmas.{any_version_found}
 use Rattle.s3_tables.proofs.table_file.TableFile.has_versions.Goals as goal
 
 pub query-requires : goal.query-requires
-query-requires g c = any_version_is.1
+query-requires g c = is_plain _ _ _ any_version_is
 
 pub returns-clause-value : goal.returns-clause-value
 returns-clause-value g c clean =

@@ -1,13 +1,13 @@
 use Rattle.std.specs.Prelude.{option_map}
 use Rattle.sqlite.specs.Held.{state}
 use Rattle.s3_stored_rows.specs.Changes.{version_columns}
-use Rattle.s3_tables.proofs.ReadTexts.{newest_is}
+use Rattle.s3_tables.proofs.ReadTexts.{newest_is, is_plain}
 use Rattle.s3_tables.proofs.ReadLemmas.{newest_found}
 use Rattle.s3_tables.proofs.AnswerLemmas.{as_asked, on_ok}
 use Rattle.s3_tables.proofs.table_file.TableFile.newest.Goals as goal
 
 pub query-requires : goal.query-requires
-query-requires g c = newest_is.1
+query-requires g c = is_plain _ _ _ newest_is
 
 pub returns-clause-value : goal.returns-clause-value
 returns-clause-value g c clean =

@@ -2,13 +2,13 @@ use Rattle.std.proofs.Common.{to_z-of_z}
 use Rattle.std.specs.Prelude.{option_map}
 use Rattle.sqlite.specs.Held.{state}
 use Rattle.s3_stored_rows.specs.Changes.{part_columns}
-use Rattle.s3_tables.proofs.ReadTexts.{part_by_number_is}
+use Rattle.s3_tables.proofs.ReadTexts.{part_by_number_is, is_plain}
 use Rattle.s3_tables.proofs.ReadLemmas.{part_by_number_found}
 use Rattle.s3_tables.proofs.AnswerLemmas.{as_asked, on_ok}
 use Rattle.s3_tables.proofs.table_file.TableFile.part.Goals as goal
 
 pub query-requires : goal.query-requires
-query-requires g c = part_by_number_is.1
+query-requires g c = is_plain _ _ _ part_by_number_is
 
 pub returns-clause-value : goal.returns-clause-value
 returns-clause-value g c clean =

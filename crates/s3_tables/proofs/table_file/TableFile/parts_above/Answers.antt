@@ -4,13 +4,13 @@ use Rattle.std.specs.declared.alloc.Global.{Global}
 use Rattle.s3_stored_rows.specs.declared.rows.StoredPart.{StoredPart}
 use Rattle.sqlite.specs.Held.{state}
 use Rattle.s3_stored_rows.specs.Changes.{part_columns}
-use Rattle.s3_tables.proofs.ReadTexts.{later_parts_is}
+use Rattle.s3_tables.proofs.ReadTexts.{later_parts_is, is_plain}
 use Rattle.s3_tables.proofs.ReadLemmas.{later_parts_found}
 use Rattle.s3_tables.proofs.AnswerLemmas.{as_asked, on_ok}
 use Rattle.s3_tables.proofs.table_file.TableFile.parts_above.Goals as goal
 
 pub query-requires : goal.query-requires
-query-requires g c = later_parts_is.1
+query-requires g c = is_plain _ _ _ later_parts_is
 
 pub returns-clause-value : goal.returns-clause-value
 returns-clause-value g c clean =

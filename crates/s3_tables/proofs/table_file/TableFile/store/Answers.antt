@@ -1,13 +1,13 @@
 use Rattle.std.specs.Prelude.{option_map}
 use Rattle.sqlite.specs.Held.{state}
 use Rattle.s3_stored_rows.specs.Changes.{store_columns}
-use Rattle.s3_tables.proofs.ReadTexts.{the_store_is}
+use Rattle.s3_tables.proofs.ReadTexts.{the_store_is, is_plain}
 use Rattle.s3_tables.proofs.ReadLemmas.{the_store_found}
 use Rattle.s3_tables.proofs.AnswerLemmas.{as_asked, on_ok}
 use Rattle.s3_tables.proofs.table_file.TableFile.store.Goals as goal
 
 pub query-requires : goal.query-requires
-query-requires g c = the_store_is.1
+query-requires g c = is_plain _ _ _ the_store_is
 
 pub returns-clause-value : goal.returns-clause-value
 returns-clause-value g c clean =

@@ -2,13 +2,13 @@ use Rattle.std.proofs.Common.{to_z-of_z}
 use Rattle.std.specs.Prelude.{option_map}
 use Rattle.sqlite.specs.Held.{state}
 use Rattle.s3_stored_rows.specs.Changes.{upload_columns}
-use Rattle.s3_tables.proofs.ReadTexts.{upload_by_id_is}
+use Rattle.s3_tables.proofs.ReadTexts.{upload_by_id_is, is_plain}
 use Rattle.s3_tables.proofs.ReadLemmas.{upload_by_id_found}
 use Rattle.s3_tables.proofs.AnswerLemmas.{as_asked, on_ok}
 use Rattle.s3_tables.proofs.table_file.TableFile.upload.Goals as goal
 
 pub query-requires : goal.query-requires
-query-requires g c = upload_by_id_is.1
+query-requires g c = is_plain _ _ _ upload_by_id_is
 
 pub returns-clause-value : goal.returns-clause-value
 returns-clause-value g c clean =

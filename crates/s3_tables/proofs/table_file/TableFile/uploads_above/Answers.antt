@@ -4,13 +4,13 @@ use Rattle.std.specs.declared.alloc.Global.{Global}
 use Rattle.s3_stored_rows.specs.declared.rows.StoredUpload.{StoredUpload}
 use Rattle.sqlite.specs.Held.{state}
 use Rattle.s3_stored_rows.specs.Changes.{upload_columns}
-use Rattle.s3_tables.proofs.ReadTexts.{later_uploads_is}
+use Rattle.s3_tables.proofs.ReadTexts.{later_uploads_is, is_plain}
 use Rattle.s3_tables.proofs.ReadLemmas.{later_uploads_found}
 use Rattle.s3_tables.proofs.AnswerLemmas.{as_asked, on_ok}
 use Rattle.s3_tables.proofs.table_file.TableFile.uploads_above.Goals as goal
 
 pub query-requires : goal.query-requires
-query-requires g c = later_uploads_is.1
+query-requires g c = is_plain _ _ _ later_uploads_is
 
 pub returns-clause-value : goal.returns-clause-value
 returns-clause-value g c clean =

@@ -3,13 +3,13 @@ use Rattle.std.specs.declared.alloc.Global.{Global}
 use Rattle.s3_stored_rows.specs.declared.rows.StoredVersion.{StoredVersion}
 use Rattle.sqlite.specs.Held.{state}
 use Rattle.s3_stored_rows.specs.Changes.{version_columns}
-use Rattle.s3_tables.proofs.ReadTexts.{versions_past_is}
+use Rattle.s3_tables.proofs.ReadTexts.{versions_past_is, is_plain}
 use Rattle.s3_tables.proofs.ReadLemmas.{versions_past_found}
 use Rattle.s3_tables.proofs.AnswerLemmas.{as_asked, on_ok}
 use Rattle.s3_tables.proofs.table_file.TableFile.versions_behind.Goals as goal
 
 pub query-requires : goal.query-requires
-query-requires g c = versions_past_is.1
+query-requires g c = is_plain _ _ _ versions_past_is
 
 pub returns-clause-value : goal.returns-clause-value
 returns-clause-value g c clean =

@@ -4,13 +4,13 @@ use Rattle.std.specs.declared.alloc.Global.{Global}
 use Rattle.s3_stored_rows.specs.declared.rows.StoredVersion.{StoredVersion}
 use Rattle.sqlite.specs.Held.{state}
 use Rattle.s3_stored_rows.specs.Changes.{version_columns}
-use Rattle.s3_tables.proofs.ReadTexts.{older_is}
+use Rattle.s3_tables.proofs.ReadTexts.{older_is, is_plain}
 use Rattle.s3_tables.proofs.ReadLemmas.{older_found}
 use Rattle.s3_tables.proofs.AnswerLemmas.{as_asked, on_ok}
 use Rattle.s3_tables.proofs.table_file.TableFile.versions_below.Goals as goal
 
 pub query-requires : goal.query-requires
-query-requires g c = older_is.1
+query-requires g c = is_plain _ _ _ older_is
 
 pub returns-clause-value : goal.returns-clause-value
 returns-clause-value g c clean =
