@@ -3,7 +3,7 @@
 ghost use Rattle.std.specs.Prelude.{◌≡◌, IfOk, false};
 ghost use Rattle.clap.specs.Words.{app_of, new_app, rule_of, with_subcommand};
 ghost use Rattle.clap.specs.declared.builder.command.Command.TheViews.{out-Command as fields_of};
-ghost use Rattle.s3_command_line.specs.Words.{with_settings, sign_app, serve_app, bare_app, s3d_app};
+ghost use Rattle.s3_command_line.specs.Words.{with_settings, replay_app, sign_app, serve_app, bare_app, s3d_app};
 ghost use Rattle.s3_command_line.specs.Command.{rule_of_argument, with_arguments, IsTold};
 
 use clap::{Arg, ArgAction, Command};
@@ -245,9 +245,7 @@ static SERVING: [Argument; 9] = [
 pub(crate) fn command<'a>(alloc: Global) -> Result<Command<'a>, AllocError>
     ensures app { IfOk result (λ command. app_of command ≡ s3d_app) }
 {
-    let about = "Reads connections from standard input and writes what they are answered";
-    let replay = subcommand(alloc, "replay", about, &REPLAYING)?;
-    let command = bare_command(alloc).subcommand(replay)?;
+    let command = with_replaying(alloc, bare_command(alloc))?;
     let command = with_signing(alloc, command)?;
     with_serving(alloc, command)
 }
@@ -263,13 +261,20 @@ fn bare_command<'a>(alloc: Global) -> Command<'a>
         .arg_required_else_help(true)
 }
 
+// Adds `s3d replay` to a command line.
+fn with_replaying<'a>(alloc: Global, command: Command<'a>) -> Result<Command<'a>, AllocError>
+    ensures app { IfOk result (λ with. app_of with ≡ with_subcommand (app_of command.entry) replay_app.top) }
+{
+    let about = "Reads connections from standard input and writes what they are answered";
+    with_subcommand(alloc, command, "replay", about, &REPLAYING)
+}
+
 // Adds `s3d sign` to a command line.
 fn with_signing<'a>(alloc: Global, command: Command<'a>) -> Result<Command<'a>, AllocError>
     ensures app { IfOk result (λ with. app_of with ≡ with_subcommand (app_of command.entry) sign_app.top) }
 {
     let about = "Writes one signed request, or its address, to standard output";
-    let sign = subcommand(alloc, "sign", about, &SIGNING)?;
-    command.subcommand(sign)
+    with_subcommand(alloc, command, "sign", about, &SIGNING)
 }
 
 // Adds `s3d serve` to a command line.
@@ -277,8 +282,22 @@ fn with_serving<'a>(alloc: Global, command: Command<'a>) -> Result<Command<'a>, 
     ensures app { IfOk result (λ with. app_of with ≡ with_subcommand (app_of command.entry) serve_app.top) }
 {
     let about = "Listens on an address and answers the connections that come";
-    let serve = subcommand(alloc, "serve", about, &SERVING)?;
-    command.subcommand(serve)
+    with_subcommand(alloc, command, "serve", about, &SERVING)
+}
+
+// Adds the subcommand of this name to a command line, with what help says of it and its further arguments.
+fn with_subcommand<'a>(
+    alloc: Global,
+    command: Command<'a>,
+    name: &'a str,
+    about: &'a str,
+    arguments: &[Argument<'a>],
+) -> Result<Command<'a>, AllocError>
+    ensures app { IfOk result (λ with. app_of with
+        ≡ with_subcommand (app_of command.entry) (with_arguments (with_settings (new_app name.entry.now)) arguments.now).top) }
+{
+    let added = subcommand(alloc, name, about, arguments)?;
+    command.subcommand(added)
 }
 
 // The command line of a subcommand of this name, with what help says of it and its further arguments.

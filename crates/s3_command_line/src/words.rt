@@ -20,7 +20,9 @@ pub fn read_words<'a, S: AsStr>(alloc: Global, words: &'a [S]) -> Result<Asked<'
     ensures refused { IfErr result (λ error. error ≢ OutOfMemory → ¬ AreRightWords (map S.text words.entry.now)) }
 {
     let mut command = command(alloc)?;
-    parse(alloc, &mut command, words)
+    let asked = parse(alloc, &mut command, words);
+    drop(command);
+    asked
 }
 
 // Reads the words by the program's command line.
@@ -37,7 +39,9 @@ fn parse<'a, S: AsStr>(
         Ok(matches) => matches,
         Err(error) => return Err(WordsError::of_parse(alloc, error)),
     };
-    match Asked::of_matches(alloc, &matches)? {
+    let asked = Asked::of_matches(alloc, &matches);
+    drop(matches);
+    match asked? {
         Some(asked) => Ok(asked),
         None => Err(WordsError::of_parse(alloc, no_subcommand(command))),
     }

@@ -9,8 +9,8 @@ pub returns-in-Some-clause-value : goal.returns-in-Some-clause-value
 returns-in-Some-clause-value g c =
     asked_by _ _ c.in-Ok.matches c.in-Some.asked c.requires c.in-Ok.ensures.ok.2 c.in-Ok.ensures.kinds (rw c.in-Some.is at c.in_ok-asked.ensures)
 
-pub returns-clause-refused : goal.returns-clause-refused
-returns-clause-refused g c other =
+pub returns-in-None-clause-refused : goal.returns-in-None-clause-refused
+returns-in-None-clause-refused g c other =
     words_unnamed _ _ c.in-Ok.matches c.requires c.in-Ok.ensures.ok.2 (rw c.in-None.is at c.in_ok-asked.ensures)
 
 -- no memory is no value, and says nothing of the words
@@ -27,5 +27,5 @@ returns-in-Err-clause-value g c = tt
 pub returns-in-Some-clause-refused : goal.returns-in-Some-clause-refused
 returns-in-Some-clause-refused g c = tt
 
-pub returns-clause-value : goal.returns-clause-value
-returns-clause-value g c = tt
+pub returns-in-None-clause-value : goal.returns-in-None-clause-value
+returns-in-None-clause-value g c = tt

@@ -1,0 +1,4 @@
+use Rattle.s3_command_line.proofs.command.with_replaying.Goals as goal
+
+pub returns : goal.returns
+returns c = record { app = c.with_subcommand.ensures.app }
