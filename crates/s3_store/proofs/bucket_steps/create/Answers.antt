@@ -21,3 +21,9 @@ returns-in_err-kept-in-None-clause-memory g c =
 pub returns-in_err-add_bucket-in-None-clause-memory : goal.returns-in_err-add_bucket-in-None-clause-memory
 returns-in_err-add_bucket-in-None-clause-memory g c =
     on_err c.from_residual-in_err-add_bucket-in-None.result (λ _. bucket_unrefused _ c.args.moment _ _ c.in_ok-bucket.ensures.there c.in-None.is)
+
+pub returns-in_err-add_bucket-in-None-clause-stays : goal.returns-in_err-add_bucket-in-None-clause-stays
+returns-in_err-add_bucket-in-None-clause-stays g c = λ known is. c.add_bucket.ensures.stays known (c.bucket.ensures.stays known is)
+
+pub returns-in_ok-add_bucket-in-None-clause-stays : goal.returns-in_ok-add_bucket-in-None-clause-stays
+returns-in_ok-add_bucket-in-None-clause-stays g c = λ known is. c.add_bucket.ensures.stays known (c.bucket.ensures.stays known is)

@@ -21,3 +21,6 @@ pub returns-in-Ok-Some-clause-ok : goal.returns-in-Ok-Some-clause-ok
 returns-in-Ok-Some-clause-ok g c =
     completion_fails c.args.rules.now _ _ c.args.number c.args.moment _ c.args.key c.args.id c.args.listed.now c.args.condition.now c.bar.ensures.same
     c.refuse_barred.result _ c.in-Ok-Some.code (sym c.in-Ok-Some.ensures.value ∙ c.in-Ok-Some.field-0-is) c.refuse_barred.ensures.same c.refuse_barred.ensures.ok
+
+pub returns-in-Ok-None-clause-stays : goal.returns-in-Ok-None-clause-stays
+returns-in-Ok-None-clause-stays g c = λ known is. c.join.ensures.stays known (c.bar.ensures.stays known is)

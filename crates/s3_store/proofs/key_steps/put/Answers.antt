@@ -22,3 +22,6 @@ pub returns-in-Ok-Some-clause-ok : goal.returns-in-Ok-Some-clause-ok
 returns-in-Ok-Some-clause-ok g c =
     let step = put_barred _ c.args.number c.args.moment _ c.args.key c.args.asked c.in-Ok-Some.code (sym c.in-Ok-Some.ensures.value ∙ c.in-Ok-Some.field-0-is) in
     cc (c.bar.ensures.same, c.refused.ensures)
+
+pub returns-in-Ok-None-clause-stays : goal.returns-in-Ok-None-clause-stays
+returns-in-Ok-None-clause-stays g c = λ known is. c.store.ensures.stays known (c.bar.ensures.stays known is)

@@ -14,3 +14,6 @@ returns-in-Ok-true-clause-memory g c =
 pub returns-in-Ok-false-clause-ok : goal.returns-in-Ok-false-clause-ok
 returns-in-Ok-false-clause-ok g c =
     part_fails _ c.args.moment _ _ c.args.id c.args.part c.args.payload _ c.refused.result (sym c.in-Ok-false.ensures.value ∙ c.in-Ok-false.field-0-test) c.has_upload.ensures.same c.refused.ensures
+
+pub returns-in-Ok-true-clause-stays : goal.returns-in-Ok-true-clause-stays
+returns-in-Ok-true-clause-stays g c = λ known is. c.send_part.ensures.stays known (c.has_upload.ensures.stays known is)
