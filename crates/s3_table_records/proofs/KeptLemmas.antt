@@ -18,7 +18,7 @@ use Rattle.s3_row_changes.specs.Trading.{Trades}
 use Rattle.s3_row_steps.specs.Steps.{AreKept, Steps}
 use Rattle.s3_stored_rows.specs.Rowids.{AreRowsBelow}
 use Rattle.s3_terms.specs.declared.memory.NoMemory.{NoMemory}
-use Rattle.s3_table_records.specs.Kept.{kept, IsKept, Changes, catalogue}
+use Rattle.s3_table_records.specs.Kept.{Kept, kept, IsKept, Changes, catalogue}
 use Rattle.s3_table_records.proofs.SameBytesLemmas.{same_catalogue}
 
 -- each number is counted as often as rows name it
@@ -200,6 +200,19 @@ module _ {X : Type 0} (t : Tables) (c : Contents) (u : ℕ → ℕ) (next : ℤ)
         ok = is_dropped t c u next before new d v later bucket stands less steps is keeps ∙ ap (changed (catalogue (kept t c u next)) bucket) same;
         err = cc;
       }
+
+-- nothing changed, not even the next rowid
+pub unchanged : {X : Type 0} (t s : Tables) (c : Contents) (u : ℕ → ℕ) (next : ℤ) → IsKept (kept t c u next) → s ≡ t → (bucket : List ℕ) (change : Change (List ℕ)) (error : NoMemory)
+    → Changes {X = X} (kept t c u next) (kept s c u next) bucket change (Err error)
+unchanged t s c u next before same bucket change error =
+    record { kept = subst (λ now. IsKept (kept now c u next)) (sym same) before; ok = cc; err = ap (λ now. catalogue (kept now c u next)) same }
+
+-- a change says the same beside another answer
+pub done_alike : {X Y : Type 0} {old new : Kept} {bucket : List ℕ} {change : Change (List ℕ)} {x : X} {y : Y} → Changes old new bucket change (Ok x) → Changes old new bucket change (Ok y)
+done_alike is = record { kept = is.kept; ok = is.ok; err = cc }
+
+pub failed_alike : {X Y : Type 0} {old new : Kept} {bucket : List ℕ} {change : Change (List ℕ)} {error failed : NoMemory} → Changes {X = X} old new bucket change (Err error) → Changes {X = Y} old new bucket change (Err failed)
+failed_alike is = record { kept = is.kept; ok = cc; err = is.err }
 
 -- ---- and of a change of rows that name no bodies, which may fail
 

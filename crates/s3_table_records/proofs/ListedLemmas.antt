@@ -1,5 +1,6 @@
 -- The bodies of listed parts: they are counted, and their bytes are those that a completion stores.
-use Rattle.std.proofs.Common.{◌≡◌, refl, sym, ap, ◌∙◌, ℕ, ℤ, pos, ◌<◌, List, [], ◌∷◌, ◌++◌, Option, Some, None, option_map}
+use Rattle.std.proofs.Common.{◌≡◌, refl, sym, ap, ap₂, ◌∙◌, ℕ, ℤ, pos, ◌+◌, ◌<◌, List, [], ◌∷◌, ◌++◌, map, take, length, get_or, Option, Some, None, option_map}
+use Rattle.std.proofs.lemmas.List.{map-append, take_more, flat_map_more}
 use Rattle.std.proofs.lemmas.List.Elements.{recursion_from_All, All-from_recursion}
 use Rattle.std.proofs.lemmas.Grind.{flat_map-append}
 use Rattle.std.specs.Prelude.{All, unwrap_or}
@@ -84,3 +85,17 @@ module _ (c : Contents) (t : Tables) where
         listed_bytes u.upload.row (upload_of (encoding c) t.parts (upload_columns u.upload)).parts
         (λ n. part_told (encoding c) t sound tells bucket key id (upload_columns u.upload) n (sym is) ∙ ap (λ o. part_at n (uploads.parts_sent o)) at) listed
         ∙ ap (λ bytes. unwrap_or bytes []) (sym (ap (bytes_listed listed) at) ∙ joined)
+
+-- ---- the numbers of one more row, and of one more that is listed
+
+pub more_named : {X Y : Type 0} (f : X → List ℕ) (g : Y → X) (ys : List Y) (i : ℕ) (y : Y) (before more after : List ℕ) → i < length ys → y ≡ get_or ys i y
+    → before ≡ flat_map f (map g (take i ys)) → more ≡ f (g y) → after ≡ before ++ more → after ≡ flat_map f (map g (take (i + 1) ys))
+more_named f g ys i y before more after within is so_far here joined =
+    joined ∙ ap₂ (λ a b. a ++ b) so_far here ∙ flat_map_more f [] (map g (take i ys)) (g y)
+    ∙ ap (flat_map f) (sym (map-append g (take i ys) (y ∷ [])) ∙ ap (λ z. map g (take i ys ++ z ∷ [])) is ∙ ap (map g) (sym (take_more ys i y within)))
+
+pub more_listed : (t s : Tables) (upload : ℤ) (listed : List ListedPart) (i : ℕ) (part : ListedPart) (before more after : List ℕ) → i < length listed → part ≡ get_or listed i part → s ≡ t
+    → before ≡ all_listed t upload (take i listed) → more ≡ listed_numbers s upload part → after ≡ before ++ more → after ≡ all_listed t upload (take (i + 1) listed)
+more_listed t s upload listed i part before more after within is same so_far here joined =
+    joined ∙ ap₂ (λ a b. a ++ b) so_far (here ∙ ap (λ u. listed_numbers u upload part) same) ∙ flat_map_more (listed_numbers t upload) [] (take i listed) part
+    ∙ ap (flat_map (listed_numbers t upload)) (ap (λ p. take i listed ++ p ∷ []) is ∙ sym (take_more listed i part within))

@@ -3,3 +3,9 @@ use Rattle.s3_table_records.proofs.table_records.TableRecordsRecords.add_upload.
 
 pub returns-clause-stays : goal.returns-clause-stays
 returns-clause-stays g c = rw (← c.self.view_is) (stays_known c.add_upload-added.ensures.stays c.add_upload-added.ensures.outlives)
+
+pub returns-clause-ok : goal.returns-clause-ok
+returns-clause-ok g c = rw (← c.self.view_is) c.add_upload-added.ensures.changes.ok
+
+pub returns-clause-err : goal.returns-clause-err
+returns-clause-err g c = rw (← c.self.view_is) c.add_upload-added.ensures.changes.err
