@@ -80,6 +80,7 @@ module _ (t : Tables) (next : ℤ) (k : AreKept next t) where
         kept = kept_added t.buckets row is.row_is (makes map.empty).sound (rows_later next t k.rowids).buckets;
         means = λ contents. (makes contents).means ∙ (λ i. changed (catalogue_of (encoding contents) t) (is.name_is i) (BucketAdded (unsigned_abs (is.made_is i))));
         trades = bucket_trades t (bucket_added row t).buckets;
+        store = refl;
       })
     where
       makes : (contents : Contents) → Makes (encoding contents) t (bucket_added row t) row.name (BucketAdded (unsigned_abs row.made))
@@ -104,6 +105,7 @@ module _ (t : Tables) (next : ℤ) (k : AreKept next t) where
         };
         means = λ contents. (makes contents).means;
         trades = bucket_trades t (bucket_dropped name t).buckets;
+        store = refl;
       })
     where
       makes : (contents : Contents) → Makes (encoding contents) t (bucket_dropped name t) name BucketDropped
@@ -118,6 +120,7 @@ module _ (t : Tables) (next : ℤ) (k : AreKept next t) where
             (pass_delete (λ b. int_lt b.row (next +ℤ pos 1)) (is_named old.name) t.buckets (rows_later next t k.rowids).buckets);
         means = λ contents. (makes contents).means ∙ ap (λ n. changed (catalogue_of (encoding contents) t) n (VersioningSet status)) named;
         trades = bucket_trades t (bucket_replaced row t).buckets;
+        store = refl;
       })
     where
       row : BucketColumns

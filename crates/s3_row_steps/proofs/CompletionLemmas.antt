@@ -98,4 +98,5 @@ module _ (t : Tables) (next : ℤ) (bucket key : List ℕ) (id n m : ℕ) (versi
       means = λ contents. ap (catalogue_of (encoding contents)) (done ∙ sym same_place) ∙ (makes contents).means
           ∙ (λ i. changed (catalogue_of (encoding contents) t) (is.placed.bucket_is i) (UploadCompleted (is.placed.key_is i) id (VersionPut n m (data_with contents numbers d))));
       trades = trade;
+      store = ap (λ u. u.store) done;
     }

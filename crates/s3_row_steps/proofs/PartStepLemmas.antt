@@ -53,4 +53,5 @@ module _ (t : Tables) (next : ℤ) (bucket key : List ℕ) (id number : ℕ) (u 
       means = λ contents. ap (catalogue_of (encoding contents)) made ∙ (makes contents).means
           ∙ ap₂ (λ n part. changed (catalogue_of (encoding contents) t) bucket (PartPut key id n part)) (ap unsigned_abs is.part_is) (is.means contents);
       trades = trade;
+      store = ap (λ u. u.store) made;
     }

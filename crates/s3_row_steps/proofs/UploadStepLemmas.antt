@@ -68,6 +68,7 @@ upload_drop_steps t next bucket key id new kept made =
       };
       means = λ contents. (rows_drop_uploads (encoding contents) t bucket key id kept.sound).means;
       trades = upload_drops t bucket key (pos id) kept.sound;
+      store = refl;
     })
 
 -- ---- an upload that is begun
@@ -106,4 +107,5 @@ module _ (t : Tables) (next : ℤ) (bucket key : List ℕ) (id : ℕ) (row : Upl
       means = λ contents. ap (catalogue_of (encoding contents)) made ∙ (makes contents).means
           ∙ (λ i. changed (catalogue_of (encoding contents) t) (is.bucket_is i) (UploadAdded (is.key_is i) (unsigned_abs (is.id_is i)) ((is.means contents ∙ same_upload) i)));
       trades = trade;
+      store = ap (λ u. u.store) made;
     }

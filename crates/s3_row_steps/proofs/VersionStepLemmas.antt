@@ -76,6 +76,7 @@ steps_later t u next bucket change other less more same s = record {
   kept = record { sound = s.kept.sound; rowids = rows_later next u s.kept.rowids; small = s.kept.small };
   means = λ contents. s.means contents ∙ same contents;
   trades = s.trades;
+  store = s.store;
 }
 
 module _ (t : Tables) (next : ℤ) (k : AreKept next t) where
@@ -126,6 +127,7 @@ module _ (t : Tables) (next : ℤ) (k : AreKept next t) where
           kept = kept_put row (makes map.empty).sound placed.row_is put.small;
           means = λ contents. (makes contents).means ∙ ap₂ (λ b q. changed (catalogue_of (encoding contents) t) b (KeyChanged q (what contents))) placed.bucket_is placed.key_is;
           trades = λ q. ap (λ l. times q (numbers_named (version_put row t)) + times q l) put.gone_is ∙ version_puts t row k.sound free q ∙ ap (λ l. times q (numbers_named t) + times q l) names;
+          store = refl;
         })
 
     pub steps_put : (u : Tables) (m : ℕ) (d : Described) (gone numbers : List ℕ) → IsVersionRow row next bucket key versioning n m d numbers → IsPut t u row gone
@@ -163,4 +165,5 @@ module _ (t : Tables) (next : ℤ) (k : AreKept next t) where
         };
         means = λ contents. (makes contents).means;
         trades = version_drops t bucket key (id_column id) k.sound;
+        store = refl;
       })

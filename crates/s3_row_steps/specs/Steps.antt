@@ -21,9 +21,10 @@ pub record AreKept (next : ℤ) (t : Tables) : Type 0 where
   pub rowids : AreRowsBelow next t
   pub small : HaveSmallIds t
 
--- the rows are kept, are this change of the catalogue, whatever bytes stand under each number, and name numbers of bodies once less
--- and once more
+-- the rows are kept, are this change of the catalogue, whatever bytes stand under each number, name numbers of bodies once less and
+-- once more, and the row of the store stays
 pub record Steps (old new : Tables) (next : ℤ) (bucket : List ℕ) (change : Contents → Change (List ℕ)) (less more : List ℕ) : Type 0 where
   pub kept : AreKept next new
   pub means : (contents : Contents) → catalogue_of (encoding contents) new ≡ changed (catalogue_of (encoding contents) old) bucket (change contents)
   pub trades : Trades old new less more
+  pub store : new.store ≡ old.store
