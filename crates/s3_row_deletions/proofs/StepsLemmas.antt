@@ -1,5 +1,5 @@
 -- Several deletions, one after another.
-use Rattle.std.proofs.Common.{◌≡◌, refl, sym, ap, ap₂, subst, ◌∙◌, ℕ, ◌+◌, ℤ, IsTrue, List, [], ◌∷◌, ◌++◌, Result, Ok, Err, OnOk, arith}
+use Rattle.std.proofs.Common.{◌≡◌, refl, sym, ap, ap₂, subst, ◌∙◌, ℕ, ◌+◌, ℤ, IsTrue, List, [], ◌∷◌, ◌++◌, Option, Some, None, Result, Ok, Err, OnOk, arith}
 use Rattle.std.proofs.lemmas.List.Sums.{fold-append}
 use Rattle.std.specs.FinMap as map
 use Rattle.s3_versions.proofs.LawLemmas.{later_is_new}
@@ -16,12 +16,14 @@ use Rattle.s3_stored_bodies.proofs.NumberLemmas.{times-append}
 use Rattle.s3_stored_rows.specs.Bodies.{encoding, numbers_named}
 use Rattle.s3_stored_rows.specs.Changes.{changed_by, after_all}
 use Rattle.s3_stored_rows.specs.Rowids.{AreRowsBelow}
+use Rattle.s3_stored_rows.specs.declared.rows.StoredVersion.{StoredVersion}
 use Rattle.s3_row_deletions.specs.Deletions.{AreDeletions}
 use Rattle.s3_row_deletions.specs.declared.deletions.Deletions.{Deletions}
+use Rattle.s3_row_deletions.specs.declared.standing.Standing.{Standing}
 use Rattle.s3_row_deletions.specs.declared.steps.Entry.{Entry}
 use Rattle.s3_row_deletions.specs.declared.steps.Step.{Step}
 use Rattle.s3_row_deletions.specs.Standing.{MayComeAll}
-use Rattle.s3_row_deletions.specs.Steps.{changes_of, numbers_gone, AreReady, IsStep, AreSteps, IsAdded}
+use Rattle.s3_row_deletions.specs.Steps.{rows_gone, rows_come, changes_of, numbers_gone, AreReady, IsStep, AreSteps, IsAdded}
 use Rattle.s3_row_deletions.proofs.MadeLemmas.{none_has}
 use Rattle.s3_row_deletions.proofs.StandingLemmas.{may_come_more}
 
@@ -35,6 +37,13 @@ pub markers-push : {B : Type 0} (c : Catalogue B) (name : List ℕ) (n t : ℕ) 
     → markers_of c name n t (objects ++ object ∷ []) ≡ markers_of c name n t objects ++ marker_of (all_deleted c name n t objects) name n object ∷ []
 markers-push c name n t [] object = refl
 markers-push c name n t (first ∷ objects) object = ap (λ ids. marker_of c name n first ∷ ids) (markers-push (deleted c name n t first) name n t objects object)
+
+-- a deletion leaves the row of the store
+store_stays : (t : Tables) (gone : Option Standing) (comes : Option StoredVersion) → (after_all (rows_gone gone ++ rows_come comes) t).store ≡ t.store
+store_stays t None None = refl
+store_stays t None (Some v) = refl
+store_stays t (Some s) None = refl
+store_stays t (Some s) (Some v) = refl
 
 module _ (t : Tables) (bucket : List ℕ) (e : Entry) where
   -- the tables as they are found
@@ -60,6 +69,7 @@ module _ (t : Tables) (bucket : List ℕ) (e : Entry) where
         means = λ contents. ap (catalogue_of (encoding contents)) after;
         told = λ contents. markers;
         trades = λ n. ap₂ (λ u l. times n (numbers_named u) + times n l) after gone;
+        store = ap (λ u. u.store) after;
       }
 
   -- one deletion more
@@ -85,6 +95,7 @@ module _ (t : Tables) (bucket : List ℕ) (e : Entry) where
             let first = so_far.trades n in
             let then = is.is.trades n in
             omega (arith, now, gone, both, first, then);
+        store = ap (λ u. u.store) after ∙ store_stays before step.gone step.comes ∙ so_far.store;
       }
 
   -- all deletions
@@ -95,6 +106,7 @@ module _ (t : Tables) (bucket : List ℕ) (e : Entry) where
     means = steps.means;
     told = steps.told;
     trades = steps.trades;
+    store = steps.store;
   }
 
 -- what holds where a call came through

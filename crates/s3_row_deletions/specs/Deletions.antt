@@ -13,10 +13,11 @@ use Rattle.s3_row_changes.specs.Trading.{Trades}
 use Rattle.s3_row_deletions.specs.declared.deletions.Deletions.{Deletions}
 
 -- the changes leave sound tables, in which the objects are deleted, each as DeleteObject does; the markers are those that are told,
--- the numbers are those of the rows that went, and every rowid is below the next
+-- the numbers are those of the rows that went, every rowid is below the next, and the row of the store stays
 pub record AreDeletions (t : Tables) (bucket : List ℕ) (n m : ℕ) (objects : List NamedObject) (d : Deletions) : Type 0 where
   pub sound : AreSound (after_all d.changes.items t)
   pub rowids : AreRowsBelow d.next (after_all d.changes.items t)
   pub means : (contents : Contents) → catalogue_of (encoding contents) (after_all d.changes.items t) ≡ all_deleted (catalogue_of (encoding contents) t) bucket n m objects
   pub told : (contents : Contents) → d.markers.items ≡ markers_of (catalogue_of (encoding contents) t) bucket n m objects
   pub trades : Trades t (after_all d.changes.items t) d.gone.items []
+  pub store : (after_all d.changes.items t).store ≡ t.store

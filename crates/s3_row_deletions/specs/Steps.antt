@@ -111,6 +111,7 @@ pub record AreSteps (t : Tables) (bucket : List ℕ) (e : Entry) (objects : List
   pub means : (contents : Contents) → catalogue_of (encoding contents) (after_all d.changes.items t) ≡ all_deleted (catalogue_of (encoding contents) t) bucket e.number e.moment objects
   pub told : (contents : Contents) → d.markers.items ≡ markers_of (catalogue_of (encoding contents) t) bucket e.number e.moment objects
   pub trades : Trades t (after_all d.changes.items t) d.gone.items []
+  pub store : (after_all d.changes.items t).store ≡ t.store
 
 -- a step is added to them
 pub record IsAdded (old : Deletions) (step : Step) (new : Deletions) : Type 0 where
