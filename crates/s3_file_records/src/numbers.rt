@@ -1,17 +1,15 @@
-//! The numbers of a run.
-ghost use Rattle.std.specs.Prelude.{◌≡◌, IsTrue, ◌+◌, ◌^◌, ◌∷◌, [], pos, OnOk, IfSome};
+//! The number that the row of the store says.
+ghost use Rattle.std.specs.Prelude.{◌≡◌, ◌<◌, IsTrue, OnOk};
 ghost use Rattle.sqlite.specs.State.{HasCleanDisk};
 ghost use Rattle.sqlite.specs.Files.{file_state};
 ghost use Rattle.s3_tables.specs.Keeping.{tables};
-ghost use Rattle.s3_file_records.specs.Found.{HasStore};
+ghost use Rattle.s3_table_records.specs.Numbered.{SaysNumber};
+ghost use Rattle.s3_file_records.specs.Found.{said, HasOtherStore};
 
 use s3_sql_rows::SqlRows;
 use s3_storage::StorageFault;
 use s3_stored_rows::{Change, StoreNumbers, StoredRows, TableName};
 use s3_table_files::FileTables;
-
-// How many numbers a run has. A million entries a second use them up in half a year.
-const NUMBERS: i64 = 1 << 44;
 
 // The rowid of the row of the store.
 const ROW: i64 = 1;
@@ -19,26 +17,61 @@ const ROW: i64 = 1;
 // The form of the tables.
 const FORM: i64 = 1;
 
-/// Takes the numbers from this one on for a run: the row of the store says the one behind them, so that a later run tells none of them
-/// again, however this one ends. It is written to the file first.
-pub(crate) fn take_numbers(
+/// The number that the row of the store says of a folder that is begun, where it said this one.
+pub(crate) fn begun(number: u64) -> u64
+    ensures { result ≡ said number }
+{
+    if number == 0 { 1 } else { number }
+}
+
+/// Begins a folder: where the row of the store says 0, as in tables that were just made, it says 1 from now on. So bytes may come to the
+/// folder before rows that name them, and a later open knows that these weren't lost. It is written to the file first.
+pub(crate) fn begin(
     memory: &mut SqlRows,
     file: &mut FileTables,
     number: u64,
 ) -> Result<(), StorageFault>
-    requires store { HasStore number memory.old }
+    requires store { SaysNumber number memory.old }
     requires same { HasCleanDisk (file_state file.old) → IsTrue (file_state file.old).is_open → tables (file_state file.old) ≡ memory.old }
-    ensures taken { OnOk result (memory.new ≡ record memory.old { store = record { row = pos 1; form = pos 1; number = pos (number + 2 ^ 44) } ∷ [] }) }
+    ensures says { OnOk result (SaysNumber (said number) memory.new) }
+    ensures rest { OnOk result (HasOtherStore memory.old memory.new) }
     ensures open { OnOk result (HasCleanDisk (file_state file.new) → IsTrue (file_state file.new).is_open) }
     ensures same { OnOk result (HasCleanDisk (file_state file.new) → tables (file_state file.new) ≡ memory.new) }
 {
-    let Some(number) = behind(number) else {
-        return Err(StorageFault::Damaged);
-    };
+    if number > 0 {
+        return asked(memory, file, number);
+    }
+    write_first(memory, file, number)
+}
+
+// The same of one that is begun, which stays as it is.
+fn asked(memory: &SqlRows, file: &mut FileTables, number: u64) -> Result<(), StorageFault>
+    requires begun { 0 < number }
+    requires store { SaysNumber number memory.now }
+    requires same { HasCleanDisk (file_state file.old) → IsTrue (file_state file.old).is_open → tables (file_state file.old) ≡ memory.now }
+    ensures says { OnOk result (SaysNumber (said number) memory.now) }
+    ensures open { OnOk result (HasCleanDisk (file_state file.new) → IsTrue (file_state file.new).is_open) }
+    ensures same { OnOk result (HasCleanDisk (file_state file.new) → tables (file_state file.new) ≡ memory.now) }
+{
+    let _memory = memory;
+    file.wake()?;
+    Ok(())
+}
+
+// The same of one that isn't.
+fn write_first(memory: &mut SqlRows, file: &mut FileTables, number: u64) -> Result<(), StorageFault>
+    requires none { number ≡ 0 }
+    requires store { SaysNumber number memory.old }
+    requires same { HasCleanDisk (file_state file.old) → IsTrue (file_state file.old).is_open → tables (file_state file.old) ≡ memory.old }
+    ensures says { OnOk result (SaysNumber (said number) memory.new) }
+    ensures rest { OnOk result (HasOtherStore memory.old memory.new) }
+    ensures open { OnOk result (HasCleanDisk (file_state file.new) → IsTrue (file_state file.new).is_open) }
+    ensures same { OnOk result (HasCleanDisk (file_state file.new) → tables (file_state file.new) ≡ memory.new) }
+{
     let store = StoreNumbers {
         row: ROW,
         form: FORM,
-        number,
+        number: 1,
     };
     let changes = [
         Change::DropRow(TableName::Store, ROW),
@@ -47,12 +80,4 @@ pub(crate) fn take_numbers(
     file.change(&changes)?;
     memory.apply(&changes)?;
     Ok(())
-}
-
-// The number behind those of a run; `None` where there are not so many.
-fn behind(number: u64) -> Option<i64>
-    ensures { IfSome result (λ behind. behind ≡ pos (number + 2 ^ 44)) }
-{
-    let number = i64::try_from(number).ok()?;
-    number.checked_add(NUMBERS)
 }

@@ -4,15 +4,18 @@ ghost use Rattle.sqlite.specs.State.{HasCleanDisk};
 ghost use Rattle.sqlite.specs.Files.{file_state};
 ghost use Rattle.s3_keepers.specs.Begun.{HasBuckets};
 ghost use Rattle.s3_keepers.specs.Sound.{IsSoundCatalogue};
+ghost use Rattle.s3_rows.specs.Columns.{Tables};
 ghost use Rattle.s3_stored_bodies.specs.Numbers.{times};
 ghost use Rattle.s3_block_bodies.specs.Parts.{uses_in};
 ghost use Rattle.s3_tables.specs.Keeping.{tables as file_tables};
 ghost use Rattle.s3_found_rows.specs.Found.{tables_of};
+ghost use Rattle.s3_mirrored_rows.specs.Mirror.{MayLeave};
 ghost use Rattle.s3_table_records.specs.Kept.{catalogue, kept_in};
-ghost use Rattle.s3_file_records.specs.Found.{IsFound, HasStore, catalogue_in};
+ghost use Rattle.s3_table_records.specs.Numbered.{SaysNumber};
+ghost use Rattle.s3_file_records.specs.Found.{said, IsFound, catalogue_in};
 
 use crate::file_keeper::FileRecords;
-use crate::numbers::take_numbers;
+use crate::numbers::{begin, begun};
 use s3_block_bodies::BlockBodies;
 use s3_found_rows::{Found, FoundTables, load};
 use s3_keepers::{Opened, add_missing};
@@ -65,7 +68,7 @@ fn over_file(
     buckets: &[BucketName],
 ) -> Result<Opened<FileRecords>, StorageFault>
     requires found { IsFound found.now memory }
-    requires store { HasStore found.now.number memory }
+    requires store { SaysNumber found.now.number memory }
     requires same { HasCleanDisk (file_state file) → IsTrue (file_state file).is_open → file_tables (file_state file) ≡ memory }
     ensures sound { IfOk result (λ opened. IsSoundCatalogue (catalogue_in opened.records) opened.number) }
     ensures buckets { IfOk result (λ opened. HasBuckets buckets.now (catalogue_in opened.records)) }
@@ -92,7 +95,7 @@ fn over_both(
     buckets: &[BucketName],
 ) -> Result<Opened<FileRecords>, StorageFault>
     requires found { IsFound found.now memory }
-    requires store { HasStore found.now.number memory }
+    requires store { SaysNumber found.now.number memory }
     requires same { HasCleanDisk (file_state file) → IsTrue (file_state file).is_open → file_tables (file_state file) ≡ memory }
     requires named { uses_in bodies ≡ (λ number. times number found.now.bodies.items) }
     ensures sound { IfOk result (λ opened. IsSoundCatalogue (catalogue_in opened.records) opened.number) }
@@ -116,11 +119,13 @@ fn with_buckets<R: StoredRows + Drop, B: StoredBodies + Drop>(
     buckets: &[BucketName],
 ) -> Result<Opened<TableRecords<R, B>>, StorageFault>
     requires found { IsFound found.now (R.tables rows) }
+    requires says { SaysNumber (said found.now.number) (R.tables rows) }
+    requires left { (t : Tables) → R.leaves rows t → t ≡ R.tables rows }
     requires named { B.uses bodies ≡ (λ number. times number found.now.bodies.items) }
     ensures sound { IfOk result (λ opened. IsSoundCatalogue (catalogue (kept_in R.tables B.contents B.uses opened.records)) opened.number) }
     ensures buckets { IfOk result (λ opened. HasBuckets buckets.now (catalogue (kept_in R.tables B.contents B.uses opened.records))) }
 {
-    let mut records = TableRecords::over(rows, bodies, found.next);
+    let mut records = TableRecords::over(rows, bodies, found.next, begun(found.number));
     match make_missing(&mut records, alloc, buckets) {
         Ok(()) => Ok(Opened {
             records,
@@ -153,7 +158,7 @@ fn make_missing<K: Records>(
 // The rows of a file in memory, and what is known of them.
 fn loaded(alloc: Global, file: &mut FileTables) -> Result<(SqlRows, Found), StorageFault>
     ensures found { IfOk result (λ loaded. IsFound loaded.1 loaded.0) }
-    ensures store { IfOk result (λ loaded. HasStore loaded.1.number loaded.0) }
+    ensures store { IfOk result (λ loaded. SaysNumber loaded.1.number loaded.0) }
     ensures same { IfOk result (λ loaded. HasCleanDisk (file_state file.new) → IsTrue (file_state file.new).is_open → file_tables (file_state file.new) ≡ loaded.0) }
 {
     let mut found = file.read(alloc)?;
@@ -163,7 +168,7 @@ fn loaded(alloc: Global, file: &mut FileTables) -> Result<(SqlRows, Found), Stor
 // The rows that were found in memory, and what is known of them.
 fn in_memory(alloc: Global, tables: &mut FoundTables) -> Result<(SqlRows, Found), StorageFault>
     ensures found { IfOk result (λ loaded. IsFound loaded.1 loaded.0) }
-    ensures store { IfOk result (λ loaded. HasStore loaded.1.number loaded.0) }
+    ensures store { IfOk result (λ loaded. SaysNumber loaded.1.number loaded.0) }
     ensures same { IfOk result (λ loaded. loaded.0 ≡ tables_of tables.old) }
 {
     let mut memory = SqlRows::new(alloc)?;
@@ -176,7 +181,7 @@ fn in_memory(alloc: Global, tables: &mut FoundTables) -> Result<(SqlRows, Found)
     }
 }
 
-// Rows in memory over a file that has the same, where the numbers of this run are taken, and the room that the folder spares.
+// Rows in memory over a file that has the same, of a folder that is begun, and the room that it spares.
 fn mirrored(
     rt: &HostRuntime,
     alloc: Global,
@@ -186,12 +191,14 @@ fn mirrored(
     found: &Found,
 ) -> Result<MirroredRows, StorageFault>
     requires found { IsFound found.now memory }
-    requires store { HasStore found.now.number memory }
+    requires store { SaysNumber found.now.number memory }
     requires same { HasCleanDisk (file_state file) → IsTrue (file_state file).is_open → file_tables (file_state file) ≡ memory }
-    ensures { IfOk result (λ rows. IsFound found.now rows.memory) }
+    ensures found { IfOk result (λ rows. IsFound found.now rows.memory) }
+    ensures says { IfOk result (λ rows. SaysNumber (said found.now.number) rows.memory) }
+    ensures left { IfOk result (λ rows. (t : Tables) → MayLeave (file_state rows.file) t → t ≡ rows.memory) }
 {
     match spare_room(rt, alloc, path) {
-        Ok(spare) => with_numbers(alloc, memory, file, spare, found),
+        Ok(spare) => with_room(alloc, memory, file, spare, found),
         Err(fault) => {
             drop(memory);
             drop(file);
@@ -201,7 +208,7 @@ fn mirrored(
 }
 
 // The same with this room.
-fn with_numbers(
+fn with_room(
     alloc: Global,
     memory: SqlRows,
     file: FileTables,
@@ -209,12 +216,14 @@ fn with_numbers(
     found: &Found,
 ) -> Result<MirroredRows, StorageFault>
     requires found { IsFound found.now memory }
-    requires store { HasStore found.now.number memory }
+    requires store { SaysNumber found.now.number memory }
     requires same { HasCleanDisk (file_state file) → IsTrue (file_state file).is_open → file_tables (file_state file) ≡ memory }
-    ensures { IfOk result (λ rows. IsFound found.now rows.memory) }
+    ensures found { IfOk result (λ rows. IsFound found.now rows.memory) }
+    ensures says { IfOk result (λ rows. SaysNumber (said found.now.number) rows.memory) }
+    ensures left { IfOk result (λ rows. (t : Tables) → MayLeave (file_state rows.file) t → t ≡ rows.memory) }
 {
     let (mut memory, mut file) = (memory, file);
-    match take_numbers(&mut memory, &mut file, found.number) {
+    match begin(&mut memory, &mut file, found.number) {
         Ok(()) => Ok(MirroredRows::new(alloc, memory, file, spare)),
         Err(fault) => {
             drop(memory);

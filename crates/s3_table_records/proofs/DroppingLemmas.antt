@@ -51,6 +51,7 @@ module _ (t : Tables) (c : Contents) (u : ℕ → ℕ) (next : ℤ) (before : Is
           ok = kept_catalogue c e v (after_all d.changes.items t) still_counted keeps ∙ are.means c;
           markers = are.told c;
           err = cc;
+          store = are.store;
         }
 
     pub is_all_deleted : HaveSmallIds (after_all d.changes.items t) → KeepsNamed v c e → (new : Tables) (later : ℤ) (markers : List (Option VersionId))

@@ -149,7 +149,7 @@ module _ (t : Tables) (c : Contents) (u : ℕ → ℕ) (next : ℤ) (before : Is
 module _ {X : Type 0} (t : Tables) (c : Contents) (u : ℕ → ℕ) (next : ℤ) (before : IsKept (kept t c u next)) (bucket : List ℕ) (change : Change (List ℕ)) where
   -- nothing changed
   pub is_same : (error : NoMemory) → Changes {X = X} (kept t c u next) (kept t c u (next +ℤ pos 1)) bucket change (Err error)
-  is_same error = record { kept = kept_later t c u next before; ok = cc; err = refl }
+  is_same error = record { kept = kept_later t c u next before; ok = cc; err = refl; store = refl }
 
   module _ (d : Contents) (v : ℕ → ℕ) (number : ℕ) (body : List ℕ) (there : (m : ℕ) → (u m ≡ 0) ↔ (get c m ≡ None)) (is_new : IsNewOrSame c u number body) where
     -- a body came and went again
@@ -160,6 +160,7 @@ module _ {X : Type 0} (t : Tables) (c : Contents) (u : ℕ → ℕ) (next : ℤ)
           kept = kept_back t c u next before d v number body there is_new is;
           ok = cc;
           err = same_back t c u next before d v number body there is_new is keeps;
+          store = refl;
         }
 
     -- a body came, rows changed, and what they no more name went
@@ -171,13 +172,14 @@ module _ {X : Type 0} (t : Tables) (c : Contents) (u : ℕ → ℕ) (next : ℤ)
           kept = kept_changed t c u next before d v number body there is_new new bucket stands less steps is;
           ok = is_changed t c u next before d v number body there is_new new bucket stands less steps is keeps ∙ ap (changed (catalogue (kept t c u next)) bucket) same;
           err = cc;
+          store = steps.store;
         }
 
   -- bodies that are there were named once more and once less again
   pub is_unshared : (error : NoMemory) (d : Contents) (v : ℕ → ℕ) (more : List ℕ) → v ≡ named_less more (named_more more u) → KeepsNamed v c d
       → Changes {X = X} (kept t c u next) (kept t d v (next +ℤ pos 1)) bucket change (Err error)
   is_unshared error d v more is keeps =
-      record { kept = kept_unshared t c u next before d v more is keeps; ok = cc; err = same_unshared t c u next before d v more is keeps }
+      record { kept = kept_unshared t c u next before d v more is keeps; ok = cc; err = same_unshared t c u next before d v more is keeps; store = refl }
 
   -- bodies that are there were named once more, rows changed, and what they no more name went
   pub is_shared : (x : X) (new : Tables) (d : Contents) (v : ℕ → ℕ) (stands : Contents → Change (List ℕ)) (less more : List ℕ) → Steps t new (next +ℤ pos 1) bucket stands less more
@@ -188,6 +190,7 @@ module _ {X : Type 0} (t : Tables) (c : Contents) (u : ℕ → ℕ) (next : ℤ)
         kept = kept_shared t c u next before d v new bucket stands less more steps is keeps;
         ok = is_changed_shared t c u next before d v new bucket stands less more steps is keeps ∙ ap (changed (catalogue (kept t c u next)) bucket) same;
         err = cc;
+        store = steps.store;
       }
 
   -- rows changed, and what they no more name went
@@ -199,20 +202,21 @@ module _ {X : Type 0} (t : Tables) (c : Contents) (u : ℕ → ℕ) (next : ℤ)
         kept = kept_dropped t c u next before new d v later bucket stands less steps is;
         ok = is_dropped t c u next before new d v later bucket stands less steps is keeps ∙ ap (changed (catalogue (kept t c u next)) bucket) same;
         err = cc;
+        store = steps.store;
       }
 
 -- nothing changed, not even the next rowid
 pub unchanged : {X : Type 0} (t s : Tables) (c : Contents) (u : ℕ → ℕ) (next : ℤ) → IsKept (kept t c u next) → s ≡ t → (bucket : List ℕ) (change : Change (List ℕ)) (error : NoMemory)
     → Changes {X = X} (kept t c u next) (kept s c u next) bucket change (Err error)
 unchanged t s c u next before same bucket change error =
-    record { kept = subst (λ now. IsKept (kept now c u next)) (sym same) before; ok = cc; err = ap (λ now. catalogue (kept now c u next)) same }
+    record { kept = subst (λ now. IsKept (kept now c u next)) (sym same) before; ok = cc; err = ap (λ now. catalogue (kept now c u next)) same; store = ap (λ now. now.store) same }
 
 -- a change says the same beside another answer
 pub done_alike : {X Y : Type 0} {old new : Kept} {bucket : List ℕ} {change : Change (List ℕ)} {x : X} {y : Y} → Changes old new bucket change (Ok x) → Changes old new bucket change (Ok y)
-done_alike is = record { kept = is.kept; ok = is.ok; err = cc }
+done_alike is = record { kept = is.kept; ok = is.ok; err = cc; store = is.store }
 
 pub failed_alike : {X Y : Type 0} {old new : Kept} {bucket : List ℕ} {change : Change (List ℕ)} {error failed : NoMemory} → Changes {X = X} old new bucket change (Err error) → Changes {X = Y} old new bucket change (Err failed)
-failed_alike is = record { kept = is.kept; ok = cc; err = is.err }
+failed_alike is = record { kept = is.kept; ok = cc; err = is.err; store = is.store }
 
 -- ---- and of a change of rows that name no bodies, which may fail
 
@@ -225,4 +229,5 @@ passed t c u next later before grown bucket change new (Err error) steps same =
       kept = subst (λ now. IsKept (kept now c u later)) (sym same) grown;
       ok = cc;
       err = ap (λ now. catalogue (kept now c u later)) same;
+      store = ap (λ now. now.store) same;
     }

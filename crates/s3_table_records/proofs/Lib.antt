@@ -5,6 +5,7 @@ pub mod AnyBytesLemmas
 pub mod DataLemmas
 pub mod CountedLemmas
 pub mod OpeningLemmas
+pub mod NumberLemmas
 pub mod FreshLemmas
 pub mod DroppingLemmas
 pub mod UploadLemmas

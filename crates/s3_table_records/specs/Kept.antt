@@ -50,11 +50,12 @@ coded_parts {R} {B} rows bodies =
 abbrev pub kept_in : {R B : Type 0} → (R → Tables) → (B → Contents) → (B → ℕ → ℕ) → Parts R B → Kept
 kept_in tables contents uses parts = kept (tables parts.rows) (contents parts.bodies) (uses parts.bodies) parts.next
 
--- what is kept is this change of the catalogue, or where an error is answered the catalogue as it was
+-- what is kept is this change of the catalogue, or where an error is answered the catalogue as it was; the row of the store stays
 pub record Changes {X : Type 0} (old new : Kept) (bucket : List ℕ) (change : Change (List ℕ)) (result : Result X NoMemory) : Type 0 where
   pub kept : IsKept new
   pub ok : OnOk result (catalogue new ≡ changed (catalogue old) bucket change)
   pub err : OnErr result (catalogue new ≡ catalogue old)
+  pub store : new.tables.store ≡ old.tables.store
 
 -- the same of several deletions by entry n at moment m, which tells the ids of delete markers
 pub record Deletes (old new : Kept) (bucket : List ℕ) (n m : ℕ) (objects : List NamedObject) (result : Result Markers NoMemory) : Type 0 where
@@ -62,3 +63,4 @@ pub record Deletes (old new : Kept) (bucket : List ℕ) (n m : ℕ) (objects : L
   pub ok : OnOk result (catalogue new ≡ all_deleted (catalogue old) bucket n m objects)
   pub markers : IfOk result (λ markers. markers ≡ markers_of (catalogue old) bucket n m objects)
   pub err : OnErr result (catalogue new ≡ catalogue old)
+  pub store : new.tables.store ≡ old.tables.store

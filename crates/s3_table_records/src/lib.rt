@@ -13,6 +13,7 @@ mod gone;
 mod keeping;
 mod listed;
 mod named;
+mod numbering;
 mod opening;
 mod parts;
 mod putting;

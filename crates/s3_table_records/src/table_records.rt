@@ -1,13 +1,14 @@
 //! Records over rows and bodies.
 ghost use Rattle.std.specs.Prelude.{◌≡◌, ◌∷◌, ℕ, false, []};
 ghost use Rattle.s3_records.specs.Catalogue.{opening};
-ghost use Rattle.s3_rows.specs.Columns.{StoreColumns, no_rows};
+ghost use Rattle.s3_rows.specs.Columns.{Tables, no_rows};
 ghost use Rattle.s3_table_records.specs.Kept.{kept, kept_in, catalogue, IsKept};
 ghost use Rattle.s3_table_records.specs.Leaving.{IsLeft, LeavesOneOf, one_of_more};
+ghost use Rattle.s3_table_records.specs.Numbered.{row_of, SaysNumber, IsAbove};
 
+use crate::numbering::{above, commit_numbered, counted, later};
 use crate::{
-    asking, buckets, completing, completion, copying, dropping, keeping, parts, putting, reading,
-    uploads,
+    asking, buckets, completing, completion, copying, dropping, parts, putting, reading, uploads,
 };
 use s3_bodies::Body;
 use s3_calendar::Moment;
@@ -35,10 +36,15 @@ pub struct TableRecords<R: StoredRows, B: StoredBodies> {
     bodies: B,
     /// A rowid above those of all rows.
     next: i64,
+    /// The number of the next entry: above those of all entries that made versions or began uploads.
+    number: u64,
+    /// The number that the row of the store says.
+    written: u64,
 }
 
 impl<R: StoredRows, B: StoredBodies> Model for TableRecords<R, B> {
-    ghost use Rattle.s3_table_records.specs.Kept.{kept, IsKept, Parts, coded_parts};
+    ghost use Rattle.s3_table_records.specs.Kept.{kept, Parts, coded_parts};
+    ghost use Rattle.s3_table_records.specs.Numbered.{IsNumbered};
 
     ghost Value = { Parts R B };
 
@@ -46,13 +52,16 @@ impl<R: StoredRows, B: StoredBodies> Model for TableRecords<R, B> {
 
     ghost view = { λ records. record { rows = records.rows; bodies = records.bodies; next = records.next } };
 
-    ghost invariant = { λ records. IsKept (kept (R.tables records.rows) (B.contents records.bodies) (B.uses records.bodies) records.next) };
+    ghost invariant = { λ records. IsNumbered (R.leaves records.rows) records.number records.written
+        (kept (R.tables records.rows) (B.contents records.bodies) (B.uses records.bodies) records.next) };
 }
 
 impl<R: StoredRows, B: StoredBodies> TableRecords<R, B> {
-    /// Records without buckets, over tables in which nothing stands but the row of the store, and bodies of which none is named.
+    /// Records without buckets, over tables in which nothing stands but the row of the store, which says 0, and bodies of which none is
+    /// named. A crash leaves these rows, or nothing.
     pub fn new(rows: R, bodies: B) -> TableRecords<R, B>
-        requires rows { (store : StoreColumns) × (R.tables rows ≡ record no_rows { store = store ∷ [] }) }
+        requires rows { R.tables rows ≡ record no_rows { store = row_of 0 ∷ [] } }
+        requires left { (t : Tables) → R.leaves rows t → t ≡ R.tables rows }
         requires bodies { (number : ℕ) → B.uses bodies number ≡ 0 }
         ensures { catalogue (kept_in R.tables B.contents B.uses result) ≡ opening [] }
     {
@@ -61,15 +70,27 @@ impl<R: StoredRows, B: StoredBodies> TableRecords<R, B> {
             rows,
             bodies,
             next: 1,
+            number: 0,
+            written: 0,
         }
     }
 
-    /// The records that stand in rows, with a rowid above all of theirs, and in the bodies that these name. It takes no memory.
-    pub fn over(rows: R, bodies: B, next: i64) -> TableRecords<R, B>
-        requires { IsKept (kept (R.tables rows) (B.contents bodies) (B.uses bodies) next) }
+    /// The records that stand in rows, with a rowid above all of theirs, and in the bodies that these name. The row of the store says this
+    /// number, which is above those of all versions and open uploads. A crash leaves these rows, or nothing. It takes no memory.
+    pub fn over(rows: R, bodies: B, next: i64, number: u64) -> TableRecords<R, B>
+        requires kept { IsKept (kept (R.tables rows) (B.contents bodies) (B.uses bodies) next) }
+        requires says { SaysNumber number (R.tables rows) }
+        requires above { IsAbove number (catalogue (kept (R.tables rows) (B.contents bodies) (B.uses bodies) next)) }
+        requires left { (t : Tables) → R.leaves rows t → t ≡ R.tables rows }
         ensures { result ≡ record { rows = rows; bodies = bodies; next = next } }
     {
-        TableRecords { rows, bodies, next }
+        TableRecords {
+            rows,
+            bodies,
+            next,
+            number,
+            written: number,
+        }
     }
 }
 
@@ -89,7 +110,12 @@ impl<R: StoredRows, B: StoredBodies> Records for TableRecords<R, B> {
     }
 
     fn commit(&mut self) -> Result<(), CommitError> {
-        keeping::commit(&mut self.rows, &mut self.bodies)
+        commit_numbered(
+            &mut self.rows,
+            &mut self.bodies,
+            self.number,
+            &mut self.written,
+        )
     }
 
     fn bucket(
@@ -212,7 +238,7 @@ impl<R: StoredRows, B: StoredBodies> Records for TableRecords<R, B> {
         moment: Moment,
         stored: Data<Body>,
     ) -> Result<(), NoMemory> {
-        let Some(later) = self.next.checked_add(1) else {
+        let Some((later, above)) = later(self.next, self.number, number) else {
             return Err(NoMemory);
         };
         let put = putting::put_version(
@@ -227,6 +253,7 @@ impl<R: StoredRows, B: StoredBodies> Records for TableRecords<R, B> {
             stored,
         );
         self.next = later;
+        self.number = counted(self.number, above, put.is_ok());
         put
     }
 
@@ -242,7 +269,7 @@ impl<R: StoredRows, B: StoredBodies> Records for TableRecords<R, B> {
         moment: Moment,
         stored: Data<Body>,
     ) -> Result<(), NoMemory> {
-        let Some(later) = self.next.checked_add(1) else {
+        let Some((later, above)) = later(self.next, self.number, number) else {
             return Err(NoMemory);
         };
         let put = copying::put_copy(
@@ -260,6 +287,7 @@ impl<R: StoredRows, B: StoredBodies> Records for TableRecords<R, B> {
             stored,
         );
         self.next = later;
+        self.number = counted(self.number, above, put.is_ok());
         put
     }
 
@@ -271,7 +299,7 @@ impl<R: StoredRows, B: StoredBodies> Records for TableRecords<R, B> {
         number: u64,
         moment: Moment,
     ) -> Result<(), NoMemory> {
-        let Some(later) = self.next.checked_add(1) else {
+        let Some((later, above)) = later(self.next, self.number, number) else {
             return Err(NoMemory);
         };
         let deleted = dropping::delete(
@@ -285,6 +313,7 @@ impl<R: StoredRows, B: StoredBodies> Records for TableRecords<R, B> {
             moment,
         );
         self.next = later;
+        self.number = counted(self.number, above, deleted.is_ok());
         deleted
     }
 
@@ -315,7 +344,10 @@ impl<R: StoredRows, B: StoredBodies> Records for TableRecords<R, B> {
         number: u64,
         moment: Moment,
     ) -> Result<Markers, NoMemory> {
-        dropping::delete_all(
+        let Some(above) = above(self.number, number) else {
+            return Err(NoMemory);
+        };
+        let deleted = dropping::delete_all(
             &mut self.rows,
             &mut self.bodies,
             &mut self.next,
@@ -324,7 +356,9 @@ impl<R: StoredRows, B: StoredBodies> Records for TableRecords<R, B> {
             objects,
             number,
             moment,
-        )
+        );
+        self.number = counted(self.number, above, deleted.is_ok());
+        deleted
     }
 
     fn has_upload(
@@ -390,7 +424,7 @@ impl<R: StoredRows, B: StoredBodies> Records for TableRecords<R, B> {
         id: UploadId,
         upload: Upload<Body>,
     ) -> Result<(), NoMemory> {
-        let Some(later) = self.next.checked_add(1) else {
+        let Some((later, above)) = later(self.next, self.number, id.number()) else {
             return Err(NoMemory);
         };
         let added = uploads::add_upload(
@@ -404,6 +438,7 @@ impl<R: StoredRows, B: StoredBodies> Records for TableRecords<R, B> {
             &upload,
         );
         self.next = later;
+        self.number = counted(self.number, above, added.is_ok());
         added
     }
 
@@ -464,7 +499,7 @@ impl<R: StoredRows, B: StoredBodies> Records for TableRecords<R, B> {
         listed: &[ListedPart],
         stored: Data<Body>,
     ) -> Result<Option<Upload<Body>>, NoMemory> {
-        let Some(later) = self.next.checked_add(1) else {
+        let Some((later, above)) = later(self.next, self.number, number) else {
             return Err(NoMemory);
         };
         let completed = completion::complete(
@@ -481,6 +516,7 @@ impl<R: StoredRows, B: StoredBodies> Records for TableRecords<R, B> {
             stored,
         );
         self.next = later;
+        self.number = counted(self.number, above, completed.is_ok());
         completed
     }
 }

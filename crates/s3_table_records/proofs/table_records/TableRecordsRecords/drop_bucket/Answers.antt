@@ -1,5 +1,12 @@
+use Rattle.std.proofs.Common.{refl, SFits, w64, to_z-of_z, rules}
 use Rattle.s3_table_records.proofs.LeavingLemmas.{stays_known}
+use Rattle.s3_table_records.proofs.NumberLemmas.{numbered_beside}
 use Rattle.s3_table_records.proofs.table_records.TableRecordsRecords.drop_bucket.Goals as goal
 
 pub returns-clause-stays : goal.returns-clause-stays
 returns-clause-stays g c = rw (← c.self.view_is) (stays_known c.drop_bucket.ensures.stays (λ n bytes did. did))
+
+pub invariant_of-self : goal.invariant_of-self
+invariant_of-self g c =
+    let fits : SFits w64 c.self.inside.next = search rules in
+    numbered_beside c.drop_bucket.ensures.stays c.drop_bucket.result c.self.invariant (rw (to_z-of_z fits) at c.drop_bucket.ensures.changes) (rw (← c.self.view_is) at c.requires.empty) refl refl

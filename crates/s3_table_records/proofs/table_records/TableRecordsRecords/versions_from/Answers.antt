@@ -1,4 +1,6 @@
+use Rattle.std.proofs.Common.{refl}
 use Rattle.s3_table_records.proofs.LeavingLemmas.{stays_known}
+use Rattle.s3_table_records.proofs.NumberLemmas.{numbered_still}
 use Rattle.s3_table_records.proofs.table_records.TableRecordsRecords.versions_from.Goals as goal
 
 pub returns-clause-value : goal.returns-clause-value
@@ -6,3 +8,6 @@ returns-clause-value g c = rw (← c.self.view_is) (c.versions_from.ensures.valu
 
 pub returns-clause-stays : goal.returns-clause-stays
 returns-clause-stays g c = rw (← c.self.view_is) (stays_known c.versions_from.ensures.stays (λ n bytes did. did))
+
+pub invariant_of-self : goal.invariant_of-self
+invariant_of-self g c = numbered_still c.versions_from.ensures.stays c.versions_from.ensures.same refl refl c.self.invariant
