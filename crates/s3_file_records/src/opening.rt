@@ -126,7 +126,7 @@ fn with_buckets<R: StoredRows + Drop, B: StoredBodies + Drop>(
     ensures buckets { IfOk result (λ opened. HasBuckets buckets.now (catalogue (kept_in R.tables B.contents B.uses opened.records))) }
 {
     let mut records = TableRecords::over(rows, bodies, found.next, begun(found.number));
-    match make_missing(&mut records, alloc, buckets) {
+    match make_missing(&mut records, alloc, found.number, buckets) {
         Ok(()) => Ok(Opened {
             records,
             number: found.number,
@@ -138,17 +138,18 @@ fn with_buckets<R: StoredRows + Drop, B: StoredBodies + Drop>(
     }
 }
 
-// Makes the buckets of these names that are missing, and commits them.
+// Makes the buckets of these names that are missing, and commits them, with the number of the next entry.
 fn make_missing<K: Records>(
     records: &mut K,
     alloc: Global,
+    next: u64,
     buckets: &[BucketName],
 ) -> Result<(), StorageFault>
     ensures there { OnOk result (HasBuckets buckets.now (K.catalogue records.new)) }
     ensures sound { (number : ℕ) → IsSoundCatalogue (K.catalogue records.old) number → IsSoundCatalogue (K.catalogue records.new) number }
 {
     add_missing(records, alloc, buckets)?;
-    match records.commit() {
+    match records.commit(next) {
         Ok(()) => Ok(()),
         Err(CommitError::NoMemory) => Err(StorageFault::NoMemory),
         Err(CommitError::Failed) => Err(StorageFault::Failed),

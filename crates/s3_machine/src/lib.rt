@@ -9,6 +9,7 @@ mod bucket_laws;
 mod command;
 mod conditional_laws;
 mod configuration;
+mod effects;
 mod history;
 mod ids;
 mod laws;

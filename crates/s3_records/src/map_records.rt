@@ -141,9 +141,11 @@ impl Records for MapRecords {
 
     ghost or_of_more = { λ _ _ _ _ _. tt };
 
+    ghost leaves_number = { λ _ _. ⊤ };
+
     fn outlive_crashes(&self) {}
 
-    fn commit(&mut self) -> Result<(), CommitError> {
+    fn commit(&mut self, _next: u64) -> Result<(), CommitError> {
         Ok(())
     }
 

@@ -65,21 +65,26 @@ pub trait Records {
     ghost or_of_more: { (records : Self) (known more : List (Catalogue (List ℕ)))
         → ((c : Catalogue (List ℕ)) → IsOneOf c known → IsOneOf c more) → leaves_one_of records known → leaves_one_of records more };
 
+    // That a crash now leaves records which give the next entry this number or a later one, or nothing.
+    ghost leaves_number: { Self → ℕ → Type 0 };
+
     /// That what a crash leaves is one of the catalogues of which that is known. It costs nothing.
     fn outlive_crashes(&self)
         ensures { (known : List (Catalogue (List ℕ))) (left : Catalogue (List ℕ))
             → leaves_one_of self.now known → leaves self.now left → IsOneOf left known };
 
     /// Commits all changes so far: where it answers `Ok`, a crash now leaves the catalogue as it is and no other, so that their
-    /// answers may be told. A crash before that, also during the call, leaves what it could leave before, or this. A keeper in
-    /// memory, of which a crash leaves nothing, has no error here.
+    /// answers may be told. A crash before that, also during the call, leaves what it could leave before, or this. With them it
+    /// commits the number of the next entry, so that no entry after a crash gets one below it. A keeper in memory, of which a crash
+    /// leaves nothing, has no error here.
     ///
     /// # Errors
     ///
     /// `CommitError::NoMemory` where memory ran out, or the keeper found no room, before it knew: it may be asked again.
     /// `CommitError::Failed` where what it stands on has failed, for good.
-    fn commit(&mut self) -> Result<(), CommitError>
+    fn commit(&mut self, next: u64) -> Result<(), CommitError>
         ensures settled { OnOk result (leaves_one_of self.new (catalogue self.new ∷ [])) }
+        ensures numbered { OnOk result (leaves_number self.new next) }
         ensures in_doubt { (known : List (Catalogue (List ℕ))) → leaves_one_of self.old known → leaves_one_of self.new (catalogue self.old ∷ known) }
         ensures same { catalogue self.new ≡ catalogue self.old }
         ensures memory { OnErr result (is_in_memory ≡ false) };

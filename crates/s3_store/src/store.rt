@@ -1,9 +1,10 @@
 //! The store.
-ghost use Rattle.std.specs.Prelude.{◌≡◌, ◌≢◌, List, [], ◌∷◌, true, false, IfOk, OnOk, OnErr, IsTrue};
+ghost use Rattle.std.specs.Prelude.{◌≡◌, ◌≢◌, List, [], ◌∷◌, true, false, if◌then◌else◌, IfOk, OnOk, OnErr, IsTrue};
 ghost use Rattle.s3_records.specs.Catalogue.{opening};
 ghost use Rattle.s3_records.specs.Leaving.{IsOneOf, StaysKnown};
 ghost use Rattle.s3_records.specs.Places.{AreBelow};
 ghost use Rattle.s3_store.specs.Steps.{opened, after_step, outcome_of};
+ghost use Rattle.s3_store.specs.Stored.{IsCounted};
 ghost use Rattle.s3_machine.specs.Effects.{is_refused, takes_room};
 ghost use Rattle.s3_machine.specs.Step.{State};
 
@@ -18,12 +19,14 @@ use std::alloc::Global;
 use std::marker::Model;
 
 /// Buckets, with their versions and open uploads and the bytes of these. Contracts see where a store stands, which is its state
-/// and the number of the next entry, and the records that it has, of which `Records` tells what a crash leaves. Its type keeps
-/// that this number is above those of the entries that made the versions.
+/// and the number of the next entry, and the records that it has, of which `Records` tells what a crash leaves. They also see the
+/// number behind the last entry that changed something, or behind those before the store began. Its type keeps that the number of
+/// the next entry is above those of the entries that made the versions.
 #[derive(Drop)]
 pub struct Store<R: Records> {
     records: R,
     number: u64,
+    changed: u64,
 }
 
 impl<R: Records> Model for Store<R> {
@@ -34,7 +37,7 @@ impl<R: Records> Model for Store<R> {
 
     ghost coded = { coded_stored R.code };
 
-    ghost view = { λ store. record { standing = record { state = R.catalogue store.records; number = store.number }; records = store.records } };
+    ghost view = { λ store. record { standing = record { state = R.catalogue store.records; number = store.number }; records = store.records; changed = store.changed } };
 
     ghost invariant = { λ store. AreBelow store.number (R.catalogue store.records) };
 }
@@ -46,8 +49,13 @@ impl<R: Records> Store<R> {
         requires below { AreBelow number (R.catalogue records) }
         ensures standing { result.standing ≡ record { state = R.catalogue records; number = number } }
         ensures records { result.records ≡ records }
+        ensures changed { result.changed ≡ number }
     {
-        Store { records, number }
+        Store {
+            records,
+            number,
+            changed: number,
+        }
     }
 }
 
@@ -105,6 +113,8 @@ impl<R: Records + Drop> Store<R> {
         ensures room { OnErr result (R.is_in_memory ≡ true → self.old.standing.number ≢ 18446744073709551615
             → IsTrue (takes_room self.old.standing.state command)) }
         ensures stays { StaysKnown R.leaves_one_of self.old.records self.new.records }
+        ensures changed { OnOk result (IsCounted self.old self.new) }
+        ensures kept { OnErr result (self.new.changed ≡ self.old.changed) }
     {
         steps_keep();
         let number = self.number;
@@ -112,12 +122,16 @@ impl<R: Records + Drop> Store<R> {
             drop(command);
             return Err(NoMemory);
         }
+        let only_reads = command.only_reads();
         let outcome = take(&mut self.records, alloc, rules, command, number, moment)?;
         self.number = number + 1;
+        let is_refused = outcome.is_refused();
+        self.changed = counted(self.changed, self.number, only_reads, is_refused);
         Ok(Answer { number, outcome })
     }
 
-    /// Commits all changes so far, as `Records::commit` says: answers may be told after it.
+    /// Commits all changes so far, as `Records::commit` says: answers may be told after it. After a crash no entry gets a number of
+    /// one that changed something.
     ///
     /// # Errors
     ///
@@ -126,10 +140,12 @@ impl<R: Records + Drop> Store<R> {
         ensures settled { OnOk result (R.leaves_one_of self.new.records (self.new.standing.state ∷ [])) }
         ensures in_doubt { (known : List State) → R.leaves_one_of self.old.records known
             → R.leaves_one_of self.new.records (self.old.standing.state ∷ known) }
+        ensures numbered { OnOk result (R.leaves_number self.new.records self.old.changed) }
         ensures same { self.new.standing ≡ self.old.standing }
+        ensures kept { self.new.changed ≡ self.old.changed }
         ensures memory { OnErr result (R.is_in_memory ≡ false) }
     {
-        self.records.commit()
+        self.records.commit(self.changed)
     }
 
     /// That what a crash leaves of the records is one of the states of which that is known, as `Records::outlive_crashes` says. It
@@ -139,5 +155,16 @@ impl<R: Records + Drop> Store<R> {
             → R.leaves_one_of self.now.records known → R.leaves self.now.records left → IsOneOf left known }
     {
         self.records.outlive_crashes();
+    }
+}
+
+// The number behind the last entry that changed something, after one of which this is the number behind it.
+fn counted(changed: u64, number: u64, only_reads: bool, is_refused: bool) -> u64
+    ensures { result ≡ (if only_reads then changed else if is_refused then changed else number) }
+{
+    if only_reads || is_refused {
+        changed
+    } else {
+        number
     }
 }

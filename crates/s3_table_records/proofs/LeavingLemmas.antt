@@ -1,13 +1,13 @@
 -- What a crash leaves, as rows and bodies change and are committed.
-use Rattle.std.proofs.Common.{◌≡◌, refl, sym, ap, subst, ◌∙◌, ℕ, ◌<◌, List, [], ◌∷◌, Option, Some, None, ◌↔◌, ◌⊎◌, inl, inr, arith}
+use Rattle.std.proofs.Common.{◌≡◌, refl, sym, ap, subst, ◌∙◌, ℕ, List, [], ◌∷◌, Option, Some, None, ◌↔◌, ◌⊎◌, inl, inr, arith}
 use Rattle.std.specs.Prelude.{unwrap_or}
 use Rattle.std.specs.FinMap.{get}
 use Rattle.s3_records.specs.Catalogue.{Catalogue}
 use Rattle.s3_records.specs.Leaving.{IsOneOf}
 use Rattle.s3_rows.specs.Columns.{Tables}
 use Rattle.s3_rows.specs.Meaning.{catalogue_of}
-use Rattle.s3_stored_bodies.specs.Numbers.{Contents, times}
-use Rattle.s3_stored_rows.specs.Bodies.{encoding, numbers_named}
+use Rattle.s3_stored_bodies.specs.Numbers.{Contents}
+use Rattle.s3_stored_rows.specs.Bodies.{encoding}
 use Rattle.s3_table_records.specs.Leaving.{IsLeft, IsKnown, LeavesOneOf, one_of_more}
 use Rattle.s3_table_records.proofs.KeptLemmas.{AreNamed}
 use Rattle.s3_table_records.proofs.SameBytesLemmas.{same_catalogue}

@@ -1,6 +1,6 @@
 -- The number of the next entry, as records change.
-use Rattle.std.proofs.Common.{◌≡◌, inl, inr, refl, sym, ap, subst, ◌∙◌, true, false, not, cond, ◌⊎◌, ℕ, ℤ, pos, ◌<◌, ◌≤◌, List, [], ◌∷◌, Option, Some, None, Result, Ok, Err, is_some, option_map, arith}
-use Rattle.std.specs.Prelude.{IsTrue, IfSome, if◌then◌else◌, is_ok}
+use Rattle.std.proofs.Common.{◌≡◌, inl, inr, refl, sym, ap, subst, ◌∙◌, true, not, cond, ◌⊎◌, ℕ, ℤ, pos, ◌<◌, ◌≤◌, List, [], ◌∷◌, Option, Some, None, Result, Ok, Err, is_some, option_map, arith}
+use Rattle.std.specs.Prelude.{⊤, IsTrue, IfSome, OnOk, if◌then◌else◌, is_ok}
 use Rattle.std.proofs.lemmas.Bool.{false≢true}
 use Rattle.s3_text.proofs.MapLemmas.{same_or}
 use Rattle.sqlite_keyed.specs.Keyed.{insert_by}
@@ -28,7 +28,7 @@ use Rattle.s3_stored_rows.specs.Changes.{store_row, with_store, without_row}
 use Rattle.s3_stored_rows.specs.declared.rows.TableName.TheVariants.{Store}
 use Rattle.s3_row_steps.specs.Steps.{AreKept}
 use Rattle.s3_table_records.specs.Kept.{Kept, kept, IsKept, Changes, Deletes, catalogue}
-use Rattle.s3_table_records.specs.Numbered.{SaysNumber, IsAbove, IsNumbered}
+use Rattle.s3_table_records.specs.Numbered.{SaysNumber, LeavesNumber, IsAbove, IsNumbered}
 
 -- ---- numbers above those of a catalogue
 
@@ -190,6 +190,21 @@ numbered_commit before after n w said t s c d u v next was same contents uses sa
   where
     above : IsAbove n (catalogue_of (encoding c) s)
     above = rw (same_rows c t s same) was.above
+
+-- where all that is left are these rows, what is left says what they say
+pub numbered_alone : {E : Type 0} (result : Result ⊤ E) (leaves : Tables → Type 0) (n said : ℕ) (s : Tables) → SaysNumber said s → n ≤ said
+    → OnOk result ((t : Tables) → leaves t → t ≡ s) → OnOk result (LeavesNumber leaves n)
+numbered_alone (Ok x) leaves n said s says reaches alone = λ t left. (said, reaches, subst (SaysNumber said) (sym (alone t left)) says)
+numbered_alone (Err e) leaves n said s says reaches alone = tt
+
+-- and so that number, and each lower one, or a later one
+pub numbered_lower : {E : Type 0} (result : Result ⊤ E) (leaves : Tables → Type 0) (n m : ℕ) → n ≤ m → OnOk result (LeavesNumber leaves m) → OnOk result (LeavesNumber leaves n)
+numbered_lower (Ok x) leaves n m lower is = λ t left. let at = is t left in (at.0, (let high : m ≤ at.0 = at.1 in omega (arith, lower, high)), at.2)
+numbered_lower (Err e) leaves n m lower is = tt
+
+-- a later number is above, too
+pub numbered_raised : (leaves : Tables → Type 0) (n m w : ℕ) (k : Kept) → n ≤ m → IsNumbered leaves n w k → IsNumbered leaves m w k
+numbered_raised leaves n m w k rises was = record { kept = was.kept; above = later_above n m (catalogue k) rises was.above; says = was.says; left = was.left }
 
 -- ---- at first
 

@@ -1,5 +1,5 @@
 -- The number in the row of the store: that of the next entry, which no entry reaches that made a version or began an upload.
-use Rattle.std.specs.Prelude.{◌≡◌, ◌<◌, ℕ, pos, IsTrue, List, [], ◌∷◌, is_some}
+use Rattle.std.specs.Prelude.{◌≡◌, ◌<◌, ◌≤◌, ℕ, pos, IsTrue, List, [], ◌∷◌, is_some}
 use Rattle.s3_records.specs.Catalogue.{Catalogue}
 use Rattle.s3_records.specs.OpenUploads.{upload_at}
 use Rattle.s3_records.specs.Places.{AreBelow}
@@ -16,6 +16,14 @@ row_of number = record { row = pos 1; form = pos 1; number = pos number }
 -- the row of the store is there, alone, and says this number
 abbrev pub SaysNumber : ℕ → Tables → Type 0
 SaysNumber number t = (store : StoreColumns) × (store.row ≡ pos 1) × (store.number ≡ pos number) × (t.store ≡ store ∷ [])
+
+-- it says this number or a later one
+abbrev pub SaysAtLeast : ℕ → Tables → Type 0
+SaysAtLeast number t = (said : ℕ) × (number ≤ said) × SaysNumber said t
+
+-- and so do whatever rows a crash leaves
+abbrev pub LeavesNumber : (Tables → Type 0) → ℕ → Type 0
+LeavesNumber leaves number = (t : Tables) → leaves t → SaysAtLeast number t
 
 -- a number is above those of all versions, and above the ids of all open uploads
 pub record IsAbove {B : Type 0} (n : ℕ) (c : Catalogue B) : Type 0 where

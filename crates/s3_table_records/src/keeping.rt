@@ -22,6 +22,7 @@ pub(crate) fn commit<R: StoredRows, B: StoredBodies>(
     ensures in_doubt { (known : List (Catalogue (List ℕ))) → LeavesOneOf (R.leaves rows.old) (B.outlives bodies.old) known
         → LeavesOneOf (R.leaves rows.new) (B.outlives bodies.new) (catalogue_of (encoding (B.contents bodies.old)) (R.tables rows.old) ∷ known) }
     ensures left { (t : Tables) → R.leaves rows.new t → R.leaves rows.old t ⊎ (t ≡ R.tables rows.old) }
+    ensures alone { OnOk result ((t : Tables) → R.leaves rows.new t → t ≡ R.tables rows.old) }
     ensures tables { R.tables rows.new ≡ R.tables rows.old }
     ensures contents { B.contents bodies.new ≡ B.contents bodies.old }
     ensures uses { B.uses bodies.new ≡ B.uses bodies.old }
@@ -43,6 +44,7 @@ fn commit_settled<R: StoredRows, B: StoredBodies>(
     ensures in_doubt { (known : List (Catalogue (List ℕ))) → LeavesOneOf (R.leaves rows.old) (B.outlives bodies.old) known
         → LeavesOneOf (R.leaves rows.new) (B.outlives bodies.new) (catalogue_of (encoding (B.contents bodies.old)) (R.tables rows.old) ∷ known) }
     ensures left { (t : Tables) → R.leaves rows.new t → R.leaves rows.old t ⊎ (t ≡ R.tables rows.old) }
+    ensures alone { OnOk result ((t : Tables) → R.leaves rows.new t → t ≡ R.tables rows.old) }
     ensures tables { R.tables rows.new ≡ R.tables rows.old }
     ensures contents { B.contents bodies.new ≡ B.contents bodies.old }
     ensures uses { B.uses bodies.new ≡ B.uses bodies.old }

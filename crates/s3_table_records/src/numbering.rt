@@ -7,7 +7,7 @@ ghost use Rattle.s3_stored_bodies.specs.Numbers.{times};
 ghost use Rattle.s3_stored_rows.specs.Bodies.{encoding, numbers_named};
 ghost use Rattle.s3_stored_rows.specs.Leaving.{LeavesNoMore};
 ghost use Rattle.s3_table_records.specs.Leaving.{LeavesOneOf};
-ghost use Rattle.s3_table_records.specs.Numbered.{row_of, SaysNumber};
+ghost use Rattle.s3_table_records.specs.Numbered.{row_of, LeavesNumber, SaysNumber};
 
 use crate::keeping;
 use s3_records::CommitError;
@@ -52,6 +52,14 @@ pub(crate) fn counted(number: u64, above: u64, is_made: bool) -> u64
     if is_made { above } else { number }
 }
 
+/// The later one of two numbers.
+pub(crate) fn latest(number: u64, other: u64) -> u64
+    ensures number { number ≤ result }
+    ensures other { other ≤ result }
+{
+    if number < other { other } else { number }
+}
+
 /// Commits rows and bodies, as `Records::commit` says, and with them the number of the next entry, where the row of the store says a
 /// lower one. A crash leaves rows that it could leave before, or these with a row that says no lower one.
 pub(crate) fn commit_numbered<R: StoredRows, B: StoredBodies>(
@@ -66,6 +74,7 @@ pub(crate) fn commit_numbered<R: StoredRows, B: StoredBodies>(
     ensures in_doubt { (known : List (Catalogue (List ℕ))) → LeavesOneOf (R.leaves rows.old) (B.outlives bodies.old) known
         → LeavesOneOf (R.leaves rows.new) (B.outlives bodies.new) (catalogue_of (encoding (B.contents bodies.old)) (R.tables rows.old) ∷ known) }
     ensures left { (t : Tables) → R.leaves rows.new t → R.leaves rows.old t ⊎ ((t ≡ R.tables rows.new) × (number ≤ written.new)) }
+    ensures numbered { OnOk result (LeavesNumber (R.leaves rows.new) number) }
     ensures says { SaysNumber written.new (R.tables rows.new) }
     ensures rises { written.old ≤ written.new }
     ensures tables { R.tables rows.new ≡ record (R.tables rows.old) { store = (R.tables rows.new).store } }

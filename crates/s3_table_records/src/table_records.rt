@@ -4,9 +4,9 @@ ghost use Rattle.s3_records.specs.Catalogue.{opening};
 ghost use Rattle.s3_rows.specs.Columns.{Tables, no_rows};
 ghost use Rattle.s3_table_records.specs.Kept.{kept, kept_in, catalogue, IsKept};
 ghost use Rattle.s3_table_records.specs.Leaving.{IsLeft, LeavesOneOf, one_of_more};
-ghost use Rattle.s3_table_records.specs.Numbered.{row_of, SaysNumber, IsAbove};
+ghost use Rattle.s3_table_records.specs.Numbered.{row_of, SaysNumber, IsAbove, LeavesNumber};
 
-use crate::numbering::{above, commit_numbered, counted, later};
+use crate::numbering::{above, commit_numbered, counted, later, latest};
 use crate::{
     asking, buckets, completing, completion, copying, dropping, parts, putting, reading, uploads,
 };
@@ -36,7 +36,8 @@ pub struct TableRecords<R: StoredRows, B: StoredBodies> {
     bodies: B,
     /// A rowid above those of all rows.
     next: i64,
-    /// The number of the next entry: above those of all entries that made versions or began uploads.
+    /// A number for the next entry: above those of all entries that made versions or began uploads, and not below those that came
+    /// with commits.
     number: u64,
     /// The number that the row of the store says.
     written: u64,
@@ -105,11 +106,14 @@ impl<R: StoredRows, B: StoredBodies> Records for TableRecords<R, B> {
 
     ghost or_of_more = { λ records. one_of_more (R.leaves records.rows) (B.outlives records.bodies) };
 
+    ghost leaves_number = { λ records. LeavesNumber (R.leaves records.rows) };
+
     fn outlive_crashes(&self) {
         self.bodies.outlive_crashes();
     }
 
-    fn commit(&mut self) -> Result<(), CommitError> {
+    fn commit(&mut self, next: u64) -> Result<(), CommitError> {
+        self.number = latest(self.number, next);
         commit_numbered(
             &mut self.rows,
             &mut self.bodies,

@@ -1,7 +1,6 @@
-use Rattle.std.proofs.Common.{◌∙◌, [], ◌∷◌}
+use Rattle.std.proofs.Common.{◌∙◌}
 use Rattle.s3_rows.specs.Meaning.{catalogue_of}
 use Rattle.s3_stored_rows.specs.Bodies.{encoding}
-use Rattle.s3_table_records.specs.Leaving.{LeavesOneOf}
 use Rattle.s3_table_records.proofs.LeavingLemmas.{all_settled, still_in_doubt, one_or_known}
 use Rattle.s3_table_records.proofs.keeping.commit_settled.Goals as goal
 
@@ -24,3 +23,6 @@ returns-in-Err-clause-in_doubt g c =
     still_in_doubt (g.R.StoredRows.tables c.args.rows.now) (g.B.StoredBodies.contents c.args.bodies.now) (g.B.StoredBodies.uses c.args.bodies.now) c.requires.named (g.met.B.StoredBodies.named_where_there c.args.bodies.now)
     (g.R.StoredRows.leaves c.commit_rows.new.rows) (g.B.StoredBodies.outlives c.args.bodies.now) c.requires.settled
     (g.R.StoredRows.leaves c.args.rows.now) c.commit_rows.ensures.survives
+
+pub returns-in-Ok-clause-alone : goal.returns-in-Ok-clause-alone
+returns-in-Ok-clause-alone g c = λ s left. c.in-Ok.ensures.settled s left ∙ c.commit_rows.ensures.same

@@ -2,7 +2,7 @@ use Rattle.std.proofs.Common.{sym, ◌∙◌, inl, inr}
 use Rattle.s3_rows.specs.Meaning.{catalogue_of}
 use Rattle.s3_stored_rows.specs.Bodies.{encoding}
 use Rattle.s3_table_records.proofs.LeavingLemmas.{stays_known, known_or_now}
-use Rattle.s3_table_records.proofs.NumberLemmas.{same_rows, same_names}
+use Rattle.s3_table_records.proofs.NumberLemmas.{same_rows, same_names, numbered_alone}
 use Rattle.s3_table_records.proofs.numbering.commit_numbered.Goals as goal
 
 pub commit-requires : goal.commit-requires
@@ -31,3 +31,8 @@ returns-in-Err-clause-in_doubt g c = λ known leaves.
 
 pub returns-in-Err-clause-left : goal.returns-in-Err-clause-left
 returns-in-Err-clause-left g c = λ t left. inl (c.write_number.ensures.stays t left)
+
+pub returns-in-Ok-clause-numbered : goal.returns-in-Ok-clause-numbered
+returns-in-Ok-clause-numbered g c =
+    numbered_alone c.commit.result (g.R.StoredRows.leaves c.commit.new.rows) c.args.number c.write_number.new.written (g.R.StoredRows.tables c.write_number.new.rows)
+    c.write_number.ensures.says c.in-Ok.ensures.reaches c.commit.ensures.alone
