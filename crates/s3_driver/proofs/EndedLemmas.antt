@@ -20,8 +20,8 @@ pub are_served : ConnectionsAreServed
 are_served settings c name new = record { holds = new.begins settings; idle = new.idle }
 
 pub have_written : ConnectionsWrite → ConnectionsHaveWritten
-have_written write settings c traffic moments entries s =
-    let w = (write c settings (input_of traffic) moments entries traffic.sent s.holds).0 in
+have_written write settings c traffic moments entries holds =
+    let w = (write c settings (input_of traffic) moments entries traffic.sent holds).0 in
     record {
       standing = standing_of c;
       waiting = w.waiting;
@@ -86,4 +86,4 @@ module _ (write : ConnectionsWrite) (settings : Settings) (c : Connected) (traff
 pub end_so : ConnectionsWrite → ConnectionsEnd
 end_so write settings c traffic moments entries endings.Closed s stops = has_closed write settings c traffic moments entries s stops.1 stops.0
 end_so write settings c traffic moments entries endings.ReadFailed s stops = has_failed_to_read write settings c traffic moments entries s stops.1 stops.0
-end_so write settings c traffic moments entries endings.WriteFailed s stops = have_written write settings c traffic moments entries s
+end_so write settings c traffic moments entries endings.WriteFailed s stops = have_written write settings c traffic moments entries s.holds

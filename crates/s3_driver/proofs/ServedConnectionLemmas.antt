@@ -1,7 +1,8 @@
 -- How a connection stands in the hands of its worker after a step.
 use mathlib.Core.List.{IsPrefix}
 use Rattle.std.proofs.lemmas.Bool.Decides.{nat_tests}
-use Rattle.std.proofs.Common.{append-nil, IfSome, ◌≡◌, ◌≤◌, ◌+◌, ◌||◌, inl, inr, nat_lt, length, arith, ℕ, suc, Bool, true, false, List, [], Option, None, Some, sym, ap, subst, ◌∙◌, ◌≢◌, refl, Result, Ok, Err}
+use Rattle.std.proofs.lemmas.List.{length_push}
+use Rattle.std.proofs.Common.{⊎_elim, ◌⊎◌, ◌∷◌, append-nil, IfOk, IfSome, ◌≡◌, ◌≤◌, ◌+◌, ◌||◌, inl, inr, nat_lt, length, arith, ℕ, suc, Bool, true, false, List, [], Option, None, Some, sym, ap, subst, ◌∙◌, ◌≢◌, refl, Result, Ok, Err}
 use Rattle.s3_config.specs.Settings.{Settings}
 use Rattle.s3_machine.specs.History.{Entry}
 use Rattle.s3_connection.specs.Connection.{Connected}
@@ -13,18 +14,19 @@ use Rattle.s3_driver.specs.declared.state.Ending.{Ending}
 use Rattle.s3_driver.specs.declared.state.Ending.TheVariants as endings
 use Rattle.s3_driver.specs.declared.state.State.{State}
 use Rattle.s3_driver.specs.declared.state.State.TheVariants as states
-use Rattle.s3_driver.specs.Ended.{Fails}
+use Rattle.s3_driver.specs.Ended.{Fails, HasWritten}
 use Rattle.s3_driver.specs.Ended.{input_of}
 use Rattle.s3_driver.specs.Served.{ConnectionsAreServed, ConnectionsEnd, ConnectionsHaveWritten, GoesOn, HasMet, IsAsking, IsNew, IsServed, StandsAt, StopsAt, TellsMoves, departure_of, ending_of, moved_then, progress_of}
 use Rattle.s3_driver.specs.Account.{DepartsSo, EndsSo, Fits, turned_away}
-use Rattle.s3_driver.specs.ServedConnection.{HasGoneOn, HasMoved, HasSubmitted, HearsOf, IsAsked, IsEnding, IsQuiet, Rests, Served, Stands, StandsBefore, account_of, moves_each}
+use Rattle.s3_driver.specs.ServedConnection.{HasGoneOn, HasMoved, HasSubmitted, HearsOf, IsAsked, IsEnding, IsLast, IsQuiet, MaySettle, Rests, Served, Stands, StandsBefore, account_of, moves_each}
 use Rattle.s3_terms.specs.declared.memory.NoMemory.{NoMemory}
 use Rattle.s3_machine.specs.declared.command.Answer.{Answer}
 use Rattle.s3_machine.specs.declared.turn.Turn.{Turn}
 use Rattle.s3_connection.specs.Connection.{entries_with, taken_of}
 use Rattle.s3_devices.specs.Device.{with_shut}
 use Rattle.s3_journal.specs.SharedStore.{Base, Seated}
-use Rattle.s3_journal.specs.Recorded.{Recorded}
+use Rattle.s3_journal.specs.Calls.{IsAnswered}
+use Rattle.s3_journal.specs.Recorded.{Recorded, recorded}
 
 -- failures where there was none before
 fails_first : (ending : Ending) (before after : Traffic) → before.failed_reads ≡ 0 → before.failed_writes ≡ 0 → Fails ending before after
@@ -33,11 +35,16 @@ fails_first endings.Closed before after no_reads no_writes f = (f.0 ∙ no_reads
 fails_first endings.ReadFailed before after no_reads no_writes f = (f.0 ∙ ap (λ n. suc n) no_reads, f.1 ∙ no_writes)
 fails_first endings.WriteFailed before after no_reads no_writes f = (f.0 ∙ no_reads, f.1 ∙ ap (λ n. suc n) no_writes)
 
+-- where nothing was given, nothing is known to be committed
+none_known : (committed mine : List Entry) → mine ≡ [] → IsPrefix committed mine → committed ≡ mine
+none_known [] mine nothing own = sym nothing
+none_known (e ∷ committed) mine nothing own = absurd (let is = own.1 in cc)
+
 -- a new one stands so
 pub new_stands : ConnectionsAreServed → (settings : Settings) (c : Connected) (traffic : Traffic) (moments : List ℕ) (seat : Seated) (state : State)
-    → IsNew c → traffic ≡ untouched seat.number → moments ≡ [] → seat.mine ≡ [] → state ≡ states.Message
+    → IsNew c → traffic ≡ untouched seat.number → moments ≡ [] → seat.mine ≡ [] → IsPrefix seat.committed seat.mine → state ≡ states.Message
     → Stands settings (record { connection = c; traffic = traffic; moments = moments; seat = seat; state = state })
-new_stands serve settings c traffic moments seat state new named none nothing is =
+new_stands serve settings c traffic moments seat state new named none nothing own is =
     subst (λ (t : Traffic). Stands settings (record { connection = c; traffic = t; moments = moments; seat = seat; state = state })) (sym named)
     (subst (λ (ms : List ℕ). Stands settings (record { connection = c; traffic = untouched seat.number; moments = ms; seat = seat; state = state })) (sym none)
     (subst (λ (s : State). Stands settings (record { connection = c; traffic = untouched seat.number; moments = []; seat = seat; state = s })) (sym is)
@@ -46,6 +53,7 @@ new_stands serve settings c traffic moments seat state new named none nothing is
       served = subst (λ (es : List Entry). IsServed settings c (untouched seat.number) [] es) (sym nothing) (serve settings c seat.number new);
       ends = (refl, refl, refl);
       shut = λ closing. absurd (cc);
+      committed = none_known seat.committed seat.mine nothing own;
     })))
 
 -- what one did is as its departure says
@@ -56,19 +64,23 @@ departs_so settings traffic moments entries (Some ending) ends = ends
 
 -- the account of one that was turned away fits no entries
 pub turned_away_fits : ConnectionsAreServed → ConnectionsHaveWritten → (settings : Settings) (c : Connected) (traffic : Traffic) (name : ℕ)
-    (entries : List Entry) → IsNew c → traffic ≡ untouched name → entries ≡ []
-    → Fits settings (record { traffic = traffic; moments = []; departure = departures.TurnedAway }) entries
-turned_away_fits serve write settings c traffic name entries new named none =
-    subst (λ (t : Traffic). Fits settings (record { traffic = t; moments = []; departure = departures.TurnedAway }) entries) (sym named)
-    (subst (λ (es : List Entry). Fits settings (turned_away name) es) (sym none)
-    (record { written = write settings c (untouched name) [] [] (serve settings c name new); ends = (refl, refl, refl) }))
+    (entries committed : List Entry) → IsNew c → traffic ≡ untouched name → entries ≡ [] → IsPrefix committed entries
+    → Fits settings (record { traffic = traffic; moments = []; departure = departures.TurnedAway }) entries committed
+turned_away_fits serve write settings c traffic name entries committed new named none own =
+    let written = write settings c (untouched name) [] [] (serve settings c name new).holds in
+    subst (λ (t : Traffic). Fits settings (record { traffic = t; moments = []; departure = departures.TurnedAway }) entries committed) (sym named)
+    (subst (λ (es : List Entry). Fits settings (turned_away name) entries es) (sym (none_known committed entries none own))
+    (subst (λ (es : List Entry). Fits settings (turned_away name) es es) (sym none)
+    (record { written = written; ends = (refl, refl, refl); told = written })))
 
 -- the account of one that stands so fits its entries
-pub fits_so : ConnectionsHaveWritten → (settings : Settings) (s : Served) → Stands settings s → Fits settings (account_of s) s.seat.mine
-fits_so write settings s stands = record {
-  written = write settings s.connection s.traffic s.moments s.seat.mine stands.served;
-  ends = departs_so settings s.traffic s.moments s.seat.mine (ending_of s.state) stands.ends;
-}
+pub fits_so : ConnectionsHaveWritten → (settings : Settings) (s : Served) → Stands settings s → Fits settings (account_of s) s.seat.mine s.seat.committed
+fits_so write settings s stands =
+    let written = write settings s.connection s.traffic s.moments s.seat.mine stands.served.holds in record {
+      written = written;
+      ends = departs_so settings s.traffic s.moments s.seat.mine (ending_of s.state) stands.ends;
+      told = subst (λ (es : List Entry). HasWritten settings s.traffic s.moments es) (sym stands.committed) written;
+    }
 
 -- one that made its moves stands as its state says
 ends_after : ConnectionsEnd → (settings : Settings) (c : Connected) (before after : Traffic) (moments : List ℕ) (entries : List Entry) (on : Bool) (state : State)
@@ -103,7 +115,7 @@ step_stands end settings config c d before after earlier later seat old state ne
     subst (λ (s : Settings). IsServed s d after later seat.mine) same (serves seat.mine (subst (λ (s : Settings). IsServed s c before earlier seat.mine) (sym same) stands.served)) in
     let was : EndsSo settings before later seat.mine None = subst (λ (e : Option Ending). EndsSo settings before earlier seat.mine e) goes stands.ends in
     subst (λ (s : State). Stands settings (record { connection = d; traffic = after; moments = later; seat = seat; state = s })) (sym is)
-    (record { named = on_goes.named ∙ stands.named; served = served; ends = ends_after end settings d before after later seat.mine on state served stops was on_goes met; shut = λ closing. absurd (not_closing on state d stops closing) })
+    (record { named = on_goes.named ∙ stands.named; served = served; ends = ends_after end settings d before after later seat.mine on state served stops was on_goes met; shut = λ closing. absurd (not_closing on state d stops closing); committed = stands.committed })
 
 -- one that is closed stands as it did once its stream is told so
 pub shut_stands : (settings : Settings) (c : Connected) (before after : Traffic) (moments : List ℕ) (seat : Seated) (old new : State)
@@ -120,7 +132,7 @@ shut_stands settings c before after moments seat old new stands was is shut =
     ) in
     let served : IsServed settings c (with_shut before) moments seat.mine = record { holds = stands.served.holds; idle = stands.served.idle } in
     subst (λ (t : Traffic). Stands settings (record { connection = c; traffic = t; moments = moments; seat = seat; state = new })) (sym shut)
-    (record { named = stands.named; served = served; ends = subst (λ (e : Option Ending). EndsSo settings (with_shut before) moments seat.mine e) (sym is) told; shut = λ closing. refl })
+    (record { named = stands.named; served = served; ends = subst (λ (e : Option Ending). EndsSo settings (with_shut before) moments seat.mine e) (sym is) told; shut = λ closing. refl; committed = stands.committed })
 
 -- what is left of a closed one stands as it did
 pub closing_stands : (settings : Settings) (c : Connected) (before after : Traffic) (moments : List ℕ) (seat : Seated) (old new : State)
@@ -134,6 +146,7 @@ closing_stands settings c before after moments seat old new stands was is as_bef
       served = stands.served;
       ends = subst (λ (e : Option Ending). EndsSo settings before moments seat.mine e) (ap ending_of was ∙ sym is) stands.ends;
       shut = λ closing. stands.shut was;
+      committed = stands.committed;
     })
 
 -- its turn has come to the store
@@ -143,34 +156,127 @@ entered_so : (in_memory : Bool) (base : Base) (old new : Seated) (history grown 
 entered_so in_memory base old new history grown turn (Ok answer) has = (has.answer.mine, has.answer.number)
 entered_so in_memory base old new history grown turn (Err e) has = (has.memory.mine, has.memory.number)
 
-pub submit_stands : (settings : Settings) (c d : Connected) (traffic : Traffic) (moments : List ℕ) (old new : Seated) (state : State) (in_memory : Bool) (base : Base)
+-- the answer of its turn is that of the last entry that it has seen
+last_so : (base : Base) (old new : Seated) (turn : Turn) (answer : Answer) → IsAnswered base old new turn answer → IsLast base new answer
+last_so base old new turn answer is =
+    let longer = ap length is.seen ∙ length_push is.earlier (recorded old.number turn answer) in
+    let place = is.place in
+    omega (arith, longer, place)
+
+answered_last : (in_memory : Bool) (base : Base) (old new : Seated) (history grown : List Recorded) (turn : Turn) (answered : Result Answer NoMemory)
+    → HasSubmitted in_memory base old new history grown turn answered → IfOk answered (IsLast base new)
+answered_last in_memory base old new history grown turn (Ok answer) has = last_so base old new turn answer has.answer
+answered_last in_memory base old new history grown turn (Err e) has = tt
+
+pub submit_stands : (c d : Connected) (traffic : Traffic) (moments : List ℕ) (old new : Seated) (state : State) (in_memory : Bool) (base : Base)
     (history grown : List Recorded) (answered : Result Answer NoMemory)
-    → Stands settings (record { connection = c; traffic = traffic; moments = moments; seat = old; state = state }) → state ≡ states.Turn
+    → Stands base.settings (record { connection = c; traffic = traffic; moments = moments; seat = old; state = state }) → state ≡ states.Turn
     → IsAsked in_memory base c d old new history grown answered
-    → StandsBefore settings (record { connection = d; traffic = traffic; moments = moments; seat = new; state = state }) answered
-submit_stands settings c d traffic moments old new state in_memory base history grown answered stands is has = record {
-  turn = has.turn;
-  before = old.mine;
-  named = stands.named ∙ sym (entered_so in_memory base old new history grown has.turn answered has.submitted).1;
-  asks = record { holds = has.asked.holds settings (input_of traffic) moments old.mine traffic.sent stands.served.holds; taken = has.asked.taken };
-  mine = (entered_so in_memory base old new history grown has.turn answered has.submitted).0;
-  ending = ap ending_of is;
-  ends = λ entries. subst (λ (e : Option Ending). EndsSo settings traffic moments old.mine e) (ap ending_of is) stands.ends;
-}
+    → StandsBefore base (record { connection = d; traffic = traffic; moments = moments; seat = new; state = state }) answered
+submit_stands c d traffic moments old new state in_memory base history grown answered stands is has =
+    let entered = entered_so in_memory base old new history grown has.turn answered has.submitted in record {
+      turn = has.turn;
+      before = old.mine;
+      named = stands.named ∙ sym entered.1;
+      asks = record { holds = has.asked.holds base.settings (input_of traffic) moments old.mine traffic.sent stands.served.holds; taken = has.asked.taken };
+      mine = entered.0;
+      ending = ap ending_of is;
+      ends = λ entries. subst (λ (e : Option Ending). EndsSo base.settings traffic moments old.mine e) (ap ending_of is) stands.ends;
+      committed = inl (has.submitted.committed ∙ stands.committed);
+      last = answered_last in_memory base old new history grown has.turn answered has.submitted;
+    }
+
+-- its entry was committed, or memory was lacking
+settled_stands : (base : Base) (c : Connected) (traffic : Traffic) (moments : List ℕ) (old new : Seated) (state : State) (answered : Result Answer NoMemory)
+    → StandsBefore base (record { connection = c; traffic = traffic; moments = moments; seat = old; state = state }) answered
+    → new ≡ record old { committed = old.mine }
+    → StandsBefore base (record { connection = c; traffic = traffic; moments = moments; seat = new; state = state }) answered
+settled_stands base c traffic moments old new state answered before settled =
+    subst (λ (s : Seated). StandsBefore base (record { connection = c; traffic = traffic; moments = moments; seat = s; state = state }) answered) (sym settled)
+    (record {
+      turn = before.turn;
+      before = before.before;
+      named = before.named;
+      asks = before.asks;
+      mine = before.mine;
+      ending = before.ending;
+      ends = before.ends;
+      committed = inr refl;
+      last = before.last;
+    })
+
+-- where no entry was made, all its entries were committed before
+none_committed : (base : Base) (s : Served) (e : NoMemory) → StandsBefore base s (Err e) → s.seat.committed ≡ s.seat.mine
+none_committed base s e before = ⊎_elim (λ is. is ∙ sym before.mine) (λ is. is) before.committed
+
+pub may_settle : (base : Base) (s : Served) (answered : Option (Result Answer NoMemory)) → HearsOf base s answered → MaySettle base s.seat answered
+may_settle base s None hears = hears.committed
+may_settle base s (Some (Err e)) hears = none_committed base s e hears
+may_settle base s (Some (Ok answer)) hears = hears.last
+
+settled_rests : (settings : Settings) (c : Connected) (traffic : Traffic) (moments : List ℕ) (old new : Seated) (state : State)
+    → Stands settings (record { connection = c; traffic = traffic; moments = moments; seat = old; state = state })
+    → new ≡ record old { committed = old.mine }
+    → Stands settings (record { connection = c; traffic = traffic; moments = moments; seat = new; state = state })
+settled_rests settings c traffic moments old new state stands settled =
+    subst (λ (s : Seated). Stands settings (record { connection = c; traffic = traffic; moments = moments; seat = s; state = state })) (sym settled)
+    (record { named = stands.named; served = stands.served; ends = stands.ends; shut = stands.shut; committed = refl })
+
+pub settled_hears : (base : Base) (c : Connected) (traffic : Traffic) (moments : List ℕ) (old new : Seated) (state : State) (answered : Option (Result Answer NoMemory))
+    → HearsOf base (record { connection = c; traffic = traffic; moments = moments; seat = old; state = state }) answered
+    → (new ≡ old) ⊎ (new ≡ record old { committed = old.mine })
+    → HearsOf base (record { connection = c; traffic = traffic; moments = moments; seat = new; state = state }) answered
+settled_hears base c traffic moments old new state answered hears (inl same) =
+    subst (λ (s : Seated). HearsOf base (record { connection = c; traffic = traffic; moments = moments; seat = s; state = state }) answered) (sym same) hears
+settled_hears base c traffic moments old new state None hears (inr settled) = settled_rests base.settings c traffic moments old new state hears settled
+settled_hears base c traffic moments old new state (Some answered) hears (inr settled) = settled_stands base c traffic moments old new state answered hears settled
 
 -- and it has heard the answer
-pub hear_stands : (settings : Settings) (c d : Connected) (traffic : Traffic) (moments : List ℕ) (seat : Seated) (old new : State) (answered : Result Answer NoMemory)
-    → StandsBefore settings (record { connection = c; traffic = traffic; moments = moments; seat = seat; state = old }) answered
+heard_so : (base : Base) (c d : Connected) (traffic : Traffic) (moments : List ℕ) (seat : Seated) (state : State) (answered : Result Answer NoMemory)
+    → StandsBefore base (record { connection = c; traffic = traffic; moments = moments; seat = seat; state = state }) answered
     → ((s : Settings) (t : Traffic) (ms : List ℕ) (entries : List Entry) (turn : Turn) → IsAsking s c t ms entries turn
     → IsServed s d t ms (entries_with entries turn answered))
-    → new ≡ states.Room → Stands settings (record { connection = d; traffic = traffic; moments = moments; seat = seat; state = new })
-hear_stands settings c d traffic moments seat old new answered before hears is =
-    let served : IsServed settings d traffic moments seat.mine =
-    subst (λ (entries : List Entry). IsServed settings d traffic moments entries) (sym before.mine) (hears settings traffic moments before.before before.turn before.asks) in
-    record { named = before.named; served = served; ends = subst (λ (e : Option Ending). EndsSo settings traffic moments seat.mine e) (sym (ap ending_of is)) (before.ends seat.mine); shut = λ closing. absurd (cc) }
+    → IsServed base.settings d traffic moments seat.mine
+heard_so base c d traffic moments seat state answered before hears =
+    subst (λ (entries : List Entry). IsServed base.settings d traffic moments entries) (sym before.mine)
+    (hears base.settings traffic moments before.before before.turn before.asks)
 
-pub taken_before : (settings : Settings) (s : Served) (answered : Result Answer NoMemory) → StandsBefore settings s answered → taken_of s.connection ≢ None
-taken_before settings s answered before none = let taken = before.asks.taken in absurd (cc)
+pub hear_stands : (base : Base) (c d : Connected) (traffic : Traffic) (moments : List ℕ) (seat : Seated) (old new : State) (answered : Result Answer NoMemory)
+    → StandsBefore base (record { connection = c; traffic = traffic; moments = moments; seat = seat; state = old }) answered
+    → ((s : Settings) (t : Traffic) (ms : List ℕ) (entries : List Entry) (turn : Turn) → IsAsking s c t ms entries turn
+    → IsServed s d t ms (entries_with entries turn answered))
+    → seat.committed ≡ seat.mine
+    → new ≡ states.Room → Stands base.settings (record { connection = d; traffic = traffic; moments = moments; seat = seat; state = new })
+hear_stands base c d traffic moments seat old new answered before hears all is = record {
+  named = before.named;
+  served = heard_so base c d traffic moments seat old answered before hears;
+  ends = subst (λ (e : Option Ending). EndsSo base.settings traffic moments seat.mine e) (sym (ap ending_of is)) (before.ends seat.mine);
+  shut = λ closing. absurd (cc);
+  committed = all;
+}
+
+-- what it wrote is as it has to be where it leaves with its answer untold
+pub untold_fits : ConnectionsHaveWritten → (base : Base) (c d : Connected) (traffic : Traffic) (moments : List ℕ) (seat : Seated) (state : State) (answered : Result Answer NoMemory)
+    → StandsBefore base (record { connection = c; traffic = traffic; moments = moments; seat = seat; state = state }) answered
+    → ((s : Settings) (t : Traffic) (ms : List ℕ) (entries : List Entry) (turn : Turn) → IsAsking s c t ms entries turn
+    → IsServed s d t ms (entries_with entries turn answered))
+    → Fits base.settings (record { traffic = traffic; moments = moments; departure = departure_of (ending_of state) }) seat.mine seat.committed
+untold_fits write base c d traffic moments seat state answered before hears =
+    let served = heard_so base c d traffic moments seat state answered before hears in
+    let written = write base.settings d traffic moments seat.mine served.holds in
+    let sooner = write base.settings c traffic moments before.before before.asks.holds in
+    record {
+      written = written;
+      ends = departs_so base.settings traffic moments seat.mine (ending_of state)
+          (subst (λ (e : Option Ending). EndsSo base.settings traffic moments seat.mine e) (sym before.ending) (before.ends seat.mine));
+      told = ⊎_elim
+          (λ is. subst (λ (es : List Entry). HasWritten base.settings traffic moments es) (sym is) sooner)
+          (λ is. subst (λ (es : List Entry). HasWritten base.settings traffic moments es) (sym is) written)
+          before.committed;
+    }
+
+pub taken_before : (base : Base) (s : Served) (answered : Result Answer NoMemory) → StandsBefore base s answered → taken_of s.connection ≢ None
+taken_before base s answered before none = let taken = before.asks.taken in absurd (cc)
 
 -- one that rests goes on, and after it
 begins_same : {A : Type 0} → (xs ys : List A) → ys ≡ xs → IsPrefix xs ys
@@ -254,14 +360,14 @@ closed_moved m n old mid new stops is ending r =
     (subst (λ (c : Connected). StandsAt (states.Ended endings.Closed) c) (sym r.connection) (stood_closed m.may_go_on m.state mid.connection stops is))
 
 -- one that has submitted its turn, if it had one, hears of it
-pub hears_so : (settings : Settings) (c d : Connected) (traffic : Traffic) (moments : List ℕ) (old new : Seated) (state : State) (in_memory : Bool) (base : Base)
+pub hears_so : (c d : Connected) (traffic : Traffic) (moments : List ℕ) (old new : Seated) (state : State) (in_memory : Bool) (base : Base)
     (history grown : List Recorded) (answered : Option (Result Answer NoMemory))
-    → Stands settings (record { connection = c; traffic = traffic; moments = moments; seat = old; state = state })
+    → Stands base.settings (record { connection = c; traffic = traffic; moments = moments; seat = old; state = state })
     → IfSome answered (IsAsked in_memory base c d old new history grown) → IfSome answered (λ _. state ≡ states.Turn) → (answered ≡ None → (d ≡ c) × (new ≡ old))
-    → HearsOf settings (record { connection = d; traffic = traffic; moments = moments; seat = new; state = state }) answered
-hears_so settings c d traffic moments old new state in_memory base history grown (Some answered) stands asked is none =
-    submit_stands settings c d traffic moments old new state in_memory base history grown answered stands is asked
-hears_so settings c d traffic moments old new state in_memory base history grown None stands asked is none =
+    → HearsOf base (record { connection = d; traffic = traffic; moments = moments; seat = new; state = state }) answered
+hears_so c d traffic moments old new state in_memory base history grown (Some answered) stands asked is none =
+    submit_stands c d traffic moments old new state in_memory base history grown answered stands is asked
+hears_so c d traffic moments old new state in_memory base history grown None stands asked is none =
     let same = none refl in
-    subst (λ (e : Connected). Stands settings (record { connection = e; traffic = traffic; moments = moments; seat = new; state = state })) (sym same.0)
-    (subst (λ (s : Seated). Stands settings (record { connection = c; traffic = traffic; moments = moments; seat = s; state = state })) (sym same.1) stands)
+    subst (λ (e : Connected). Stands base.settings (record { connection = e; traffic = traffic; moments = moments; seat = new; state = state })) (sym same.0)
+    (subst (λ (s : Seated). Stands base.settings (record { connection = c; traffic = traffic; moments = moments; seat = s; state = state })) (sym same.1) stands)

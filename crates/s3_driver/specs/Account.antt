@@ -35,7 +35,9 @@ DepartsSo settings traffic moments entries departures.GivenUp = EndsSo settings 
 DepartsSo settings traffic moments entries (departures.Ended ending) = EndsSo settings traffic moments entries (Some ending)
 
 -- An account fits the entries of its connection's seat: what was written is at any rate a beginning of the output for all that came, for
--- these moments and these entries.
-pub record Fits (settings : Settings) (account : Account) (entries : List Entry) : Type 0 where
+-- these moments and these entries. And it is one for those alone of which its seat knew that they were committed: no answer of another
+-- was told.
+pub record Fits (settings : Settings) (account : Account) (entries committed : List Entry) : Type 0 where
   pub written : HasWritten settings account.traffic account.moments entries
   pub ends : DepartsSo settings account.traffic account.moments entries account.departure
+  pub told : HasWritten settings account.traffic account.moments committed

@@ -184,11 +184,11 @@ StopsAt false state c = StandsAt state c
 abbrev pub ConnectionsAreServed : Type 0
 ConnectionsAreServed = (settings : Settings) (c : Connected) (name : ℕ) → IsNew c → IsServed settings c (untouched name) [] []
 
--- one that is served has written a beginning of its output
+-- one that is served, or whose turn is being answered, has written a beginning of its output
 abbrev pub ConnectionsHaveWritten : Type 0
 ConnectionsHaveWritten =
     (settings : Settings) (c : Connected) (traffic : Traffic) (moments : List ℕ) (entries : List Entry)
-    → IsServed settings c traffic moments entries → HasWritten settings traffic moments entries
+    → Holds c settings (input_of traffic) moments entries traffic.sent → HasWritten settings traffic moments entries
 
 -- and one that has ended what its ending says
 abbrev pub ConnectionsEnd : Type 0

@@ -1,5 +1,5 @@
 -- A connection that a worker serves.
-use Rattle.std.specs.Prelude.{◌≡◌, ◌⊎◌, ◌≤◌, ◌+◌, ◌++◌, ◌∷◌, [], true, false, ℕ, List, Option, None, Some, Result, IfOk, OnErr, Bool}
+use Rattle.std.specs.Prelude.{length, ◌≡◌, ◌⊎◌, ◌≤◌, ◌+◌, ◌++◌, ◌∷◌, [], true, false, ℕ, List, Option, None, Some, Result, Ok, Err, IfOk, OnErr, Bool}
 use mathlib.Core.List.{IsPrefix}
 use Rattle.s3_config.specs.Settings.{Settings}
 use Rattle.s3_terms.specs.declared.memory.NoMemory.{NoMemory}
@@ -27,12 +27,13 @@ pub record Served : Type 0 where
   pub state : State
 
 -- It was served so, over a stream that has the number of its seat for a name; and if it has ended, as its state says. The stream of one
--- that is closing was told that it takes no more.
+-- that is closing was told that it takes no more. All its entries, whose answers it was given, were committed.
 pub record Stands (settings : Settings) (s : Served) : Type 0 where
   pub named : s.traffic.name ≡ s.seat.number
   pub served : IsServed settings s.connection s.traffic s.moments s.seat.mine
   pub ends : EndsSo settings s.traffic s.moments s.seat.mine (ending_of s.state)
   pub shut : s.state ≡ states.Closing → s.traffic.is_shut ≡ true
+  pub committed : s.seat.committed ≡ s.seat.mine
 
 -- what is told of it when it leaves
 abbrev pub account_of : Served → Account
@@ -91,6 +92,7 @@ pub record HasSubmitted (in_memory : Bool) (base : Base) (old new : Seated) (his
   pub entry : IfOk answered (λ answer. grown ≡ history ++ recorded old.number turn answer ∷ [])
   pub memory : OnErr answered (LacksMemory in_memory base old new turn)
   pub same : OnErr answered (grown ≡ history)
+  pub committed : new.committed ≡ old.committed
 
 -- The turn of a connection was taken to the store, which answered so.
 pub record IsAsked (in_memory : Bool) (base : Base) (old new : Connected) (before after : Seated) (history grown : List Recorded)
@@ -105,16 +107,30 @@ pub record Heard : Type 0 where
   pub served : Served
   pub answered : Option (Result Answer NoMemory)
 
--- One that hears this will have been served so.
-pub record StandsBefore (settings : Settings) (s : Served) (answered : Result Answer NoMemory) : Type 0 where
+-- the answer is that of the last entry of what a seat has seen
+abbrev pub IsLast : Base → Seated → Answer → Type 0
+IsLast base seat answer = answer.number + 1 ≡ base.store.number + length seat.seen
+
+-- One that hears this will have been served so. Its entries were committed, or all but the one of its answer, which is the last entry that
+-- its seat has seen.
+pub record StandsBefore (base : Base) (s : Served) (answered : Result Answer NoMemory) : Type 0 where
   pub turn : Turn
   pub before : List Entry
   pub named : s.traffic.name ≡ s.seat.number
-  pub asks : IsAsking settings s.connection s.traffic s.moments before turn
+  pub asks : IsAsking base.settings s.connection s.traffic s.moments before turn
   pub mine : s.seat.mine ≡ entries_with before turn answered
   pub ending : ending_of s.state ≡ None
-  pub ends : (entries : List Entry) → EndsSo settings s.traffic s.moments entries None
+  pub ends : (entries : List Entry) → EndsSo base.settings s.traffic s.moments entries None
+  pub committed : (s.seat.committed ≡ before) ⊎ (s.seat.committed ≡ s.seat.mine)
+  pub last : IfOk answered (IsLast base s.seat)
 
-abbrev pub HearsOf : Settings → Served → Option (Result Answer NoMemory) → Type 0
-HearsOf settings s None = Stands settings s
-HearsOf settings s (Some answered) = StandsBefore settings s answered
+-- what is known before it is asked whether all entries of a seat were committed: they were where no entry was made, and else the answer
+-- is that of the last entry that it has seen
+abbrev pub MaySettle : Base → Seated → Option (Result Answer NoMemory) → Type 0
+MaySettle base seat None = seat.committed ≡ seat.mine
+MaySettle base seat (Some (Err none)) = seat.committed ≡ seat.mine
+MaySettle base seat (Some (Ok answer)) = IsLast base seat answer
+
+abbrev pub HearsOf : Base → Served → Option (Result Answer NoMemory) → Type 0
+HearsOf base s None = Stands base.settings s
+HearsOf base s (Some answered) = StandsBefore base s answered

@@ -20,11 +20,12 @@ impl Model for Account {
     ghost view = { λ account. turned_away 0 };
 }
 
-/// What it wrote is the output for what came, for these moments and for the entries of its seat.
+/// What it wrote is the output for what came, for these moments and for the entries of its seat, and tells those alone that were
+/// committed.
 impl Report for Account {
     ghost use Rattle.s3_driver.specs.Account.{Fits};
 
-    ghost fits = { λ base account entries. Fits base.settings account entries };
+    ghost fits = { λ base account entries committed. Fits base.settings account entries committed };
 }
 
 // What an account is told of.

@@ -10,7 +10,7 @@ pub fn connections_are_served()
 {}
 
 /// A law: what a connection that is served wrote is, at any time, a beginning of its output for what was taken of all that its
-/// device gave. There is nothing to run.
+/// device gave, also while its turn is being answered. There is nothing to run.
 pub fn connections_have_written()
     ensures { ConnectionsHaveWritten }
 {

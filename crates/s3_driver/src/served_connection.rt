@@ -1,12 +1,12 @@
 //! A connection that a worker serves.
 
-ghost use Rattle.std.specs.Prelude.{◌≡◌, ◌≢◌, ◌<◌, ◌≤◌, ◌+◌, ◌++◌, ◌∷◌, ◌==◌, if◌then◌else◌, ℕ, [], length, true, false, None, Some, IfOk, IfSome};
+ghost use Rattle.std.specs.Prelude.{◌≡◌, ◌≢◌, ◌⊎◌, ◌<◌, ◌≤◌, ◌+◌, ◌++◌, ◌∷◌, ◌==◌, if◌then◌else◌, ℕ, [], length, true, false, None, Some, IfOk, IfSome};
 ghost use Rattle.s3_connection.specs.Connection.{turn_of};
 ghost use Rattle.s3_devices.specs.Recorded.{untouched};
 ghost use Rattle.s3_journal.specs.Roster.{is_out};
 ghost use Rattle.s3_driver.specs.Account.{Fits};
-ghost use Rattle.s3_driver.specs.Served.{HasMet, IsNew, StopsAt, TellsMoves, ending_of, progress_of};
-ghost use Rattle.s3_driver.specs.ServedConnection.{HasGoneOn, HasMoved, HasSubmitted, IsAsked, IsEnding, IsQuiet, Rests, account_of, is_going, moves_each};
+ghost use Rattle.s3_driver.specs.Served.{HasMet, IsNew, StopsAt, TellsMoves, departure_of, ending_of, progress_of};
+ghost use Rattle.s3_driver.specs.ServedConnection.{HasGoneOn, HasMoved, HasSubmitted, IsAsked, IsEnding, IsQuiet, MaySettle, Rests, account_of, is_going, moves_each};
 
 use crate::account::{Account, AsAccount, Telling};
 use crate::driver::Driver;
@@ -18,7 +18,7 @@ use s3_calendar::Moment;
 use s3_config::Config;
 use s3_devices::{Reading, Stream};
 use s3_history::Recorder;
-use s3_journal::{Ground, Roster, Seat, Turns};
+use s3_journal::{Committed, Ground, Roster, Seat, Turns};
 use s3_machine::Answer;
 use s3_records::Records;
 use s3_terms::NoMemory;
@@ -64,7 +64,7 @@ impl<J: Ground, S: Stream + Drop, O: MessageObserver + Drop> Model for ServedCon
         (record { connection = c.parts.driver.value; traffic = S.Device.traffic c.parts.stream; moments = c.parts.moments.entries; seat = c.parts.seat; state = c.parts.waits.state }) };
 }
 
-/// A connection whose turn has come to the store, with the answer, which it hasn't heard.
+/// A connection whose turn has come to the store, with the answer, which it hasn't heard. It hears it once that is committed, or leaves.
 #[derive(Drop)]
 pub struct AnsweredConnection<J: Ground, S: Stream + Drop, O: MessageObserver + Drop> {
     parts: Parts<J, S, O>,
@@ -78,7 +78,7 @@ impl<J: Ground, S: Stream + Drop, O: MessageObserver + Drop> Model for AnsweredC
 
     ghost view = { λ c. record { served = record { connection = c.parts.driver.value; traffic = S.Device.traffic c.parts.stream; moments = c.parts.moments.entries; seat = c.parts.seat; state = c.parts.waits.state }; answered = c.answered } };
 
-    ghost invariant = { λ c. rules.HearsOf J.base.settings
+    ghost invariant = { λ c. rules.HearsOf J.base
         (record { connection = c.parts.driver.value; traffic = S.Device.traffic c.parts.stream; moments = c.parts.moments.entries; seat = c.parts.seat; state = c.parts.waits.state }) c.answered };
 }
 
@@ -108,6 +108,7 @@ impl<J: Ground, S: Stream + Drop, O: MessageObserver + Drop> ServedConnection<J,
         ensures state { result.state ≡ State.Message }
     {
         connections_are_served();
+        seat.commits();
         let parts = Parts {
             driver,
             stream,
@@ -121,7 +122,7 @@ impl<J: Ground, S: Stream + Drop, O: MessageObserver + Drop> ServedConnection<J,
 
     /// What it wrote so far is as it has to be: a law about it, with nothing to run.
     pub fn account(&self)
-        ensures { Fits J.base.settings (account_of self.now) self.now.seat.mine }
+        ensures { Fits J.base.settings (account_of self.now) self.now.seat.mine self.now.seat.committed }
     {
         connections_have_written();
         let _ = &self.parts;
@@ -342,37 +343,40 @@ impl<J: Ground, S: Stream + Drop, O: MessageObserver + Drop> ServedConnection<J,
     pub fn leave(self, roster: &mut Roster<J, Account>) -> S
         requires out { is_out roster.old.numbers self.seat.number ≡ true }
         ensures gone { roster.new.gone
-            ≡ roster.old.gone ++ record { number = self.seat.number; calls = self.seat.mine; seen = self.seat.seen; report = account_of self } ∷ [] }
+            ≡ roster.old.gone ++ record { number = self.seat.number; calls = self.seat.mine; seen = self.seat.seen; committed = self.seat.committed; report = account_of self } ∷ [] }
         ensures out { (n : ℕ) → is_out roster.new.numbers n ≡ (if n == self.seat.number then false else is_out roster.old.numbers n) }
         ensures index { roster.new.index ≡ roster.old.index }
         ensures stream { S.Device.traffic result ≡ self.traffic }
         ensures named { self.traffic.name ≡ self.seat.number }
     {
         connections_have_written();
-        let Parts {
-            driver,
-            stream,
-            seat,
-            moments,
-            observer,
-            waits,
-        } = self.parts;
-        drop(driver);
-        leave_observer(observer);
-        let telling = Telling {
-            stream: &stream,
-            moments: &moments,
-            departure: waits.state.departure(),
-        };
-        roster.leave::<Telling<'_, S>, AsAccount<S>>(seat, &telling);
-        drop(moments);
-        stream
+        self.parts.leave(roster)
     }
 }
 
 impl<J: Ground, S: Stream + Drop, O: MessageObserver + Drop> AnsweredConnection<J, S, O> {
-    /// Gives it the answer, if there is one, whose reply is written, and isn't out yet. It takes no memory.
+    /// The number of its seat.
+    pub fn number(&self) -> u64
+        ensures { result ≡ self.now.served.seat.number }
+    {
+        self.parts.seat.number()
+    }
+
+    /// Whether it may hear the answer, if there is one: a history that was committed has its entry, if one was made.
+    pub fn may_hear(&mut self, committed: &Committed<J>) -> bool
+        ensures may { result ≡ true → self.new.served.seat.committed ≡ self.new.served.seat.mine }
+        ensures traffic { self.new.served.traffic ≡ self.old.served.traffic }
+        ensures moments { self.new.served.moments ≡ self.old.served.moments }
+        ensures number { self.new.served.seat.number ≡ self.old.served.seat.number }
+        ensures answered { self.new.answered ≡ self.old.answered }
+    {
+        settle(&mut self.parts.seat, &self.answered, committed)
+    }
+
+    /// Gives it the answer, if there is one, whose reply is written, and isn't out yet. All its entries were committed. It takes no
+    /// memory.
     pub fn hear(self, alloc: Global, now: Instant) -> ServedConnection<J, S, O>
+        requires committed { self.served.seat.committed ≡ self.served.seat.mine }
         ensures traffic { result.traffic ≡ self.served.traffic }
         ensures moments { result.moments ≡ self.served.moments }
         ensures seat { result.seat ≡ self.served.seat }
@@ -389,6 +393,82 @@ impl<J: Ground, S: Stream + Drop, O: MessageObserver + Drop> AnsweredConnection<
         parts.driver.answer(alloc, &mut parts.observer, answered);
         parts.waits.note(Moved::stopped(State::Room), now);
         ServedConnection { parts }
+    }
+
+    /// Has it leave as `ServedConnection::leave` does. Nothing of the answer is written.
+    pub fn leave(self, alloc: Global, now: Instant, roster: &mut Roster<J, Account>) -> S
+        requires out { is_out roster.old.numbers self.served.seat.number ≡ true }
+        ensures gone { roster.new.gone
+            ≡ roster.old.gone ++ record { number = self.served.seat.number; calls = self.served.seat.mine; seen = self.served.seat.seen; committed = self.served.seat.committed; report = account_of self.served } ∷ [] }
+        ensures out { (n : ℕ) → is_out roster.new.numbers n ≡ (if n == self.served.seat.number then false else is_out roster.old.numbers n) }
+        ensures index { roster.new.index ≡ roster.old.index }
+        ensures stream { S.Device.traffic result ≡ self.served.traffic }
+        ensures named { self.served.traffic.name ≡ self.served.seat.number }
+    {
+        connections_have_written();
+        let AnsweredConnection {
+            mut parts,
+            answered,
+        } = self;
+        match answered {
+            Some(answered) => {
+                parts.observer.at(now);
+                parts.driver.answer(alloc, &mut parts.observer, answered);
+                parts.leave(roster)
+            }
+            None => parts.leave(roster),
+        }
+    }
+}
+
+impl<J: Ground, S: Stream + Drop, O: MessageObserver + Drop> Parts<J, S, O> {
+    // Gives the seat back to the roster that it is from, with the account of what was done, and hands the stream out.
+    fn leave(self, roster: &mut Roster<J, Account>) -> S
+        requires fits { Fits J.base.settings
+            (record { traffic = S.Device.traffic self.stream; moments = self.moments.entries; departure = departure_of (ending_of self.waits.state) })
+            self.seat.mine self.seat.committed }
+        requires out { is_out roster.old.numbers self.seat.number ≡ true }
+        ensures gone { roster.new.gone
+            ≡ roster.old.gone ++ record { number = self.seat.number; calls = self.seat.mine; seen = self.seat.seen; committed = self.seat.committed; report = record { traffic = S.Device.traffic self.stream; moments = self.moments.entries; departure = departure_of (ending_of self.waits.state) } } ∷ [] }
+        ensures out { (n : ℕ) → is_out roster.new.numbers n ≡ (if n == self.seat.number then false else is_out roster.old.numbers n) }
+        ensures index { roster.new.index ≡ roster.old.index }
+        ensures stream { S.Device.traffic result ≡ S.Device.traffic self.stream }
+    {
+        let Parts {
+            driver,
+            stream,
+            seat,
+            moments,
+            observer,
+            waits,
+        } = self;
+        drop(driver);
+        leave_observer(observer);
+        let telling = Telling {
+            stream: &stream,
+            moments: &moments,
+            departure: waits.state.departure(),
+        };
+        roster.leave::<Telling<'_, S>, AsAccount<S>>(seat, &telling);
+        drop(moments);
+        stream
+    }
+}
+
+// Whether all entries of a seat were committed whose last turn was answered so, if one was: that of the answer was by this commit,
+// or none was made.
+fn settle<J: Ground>(
+    seat: &mut Seat<J>,
+    answered: &Option<Result<Answer, NoMemory>>,
+    committed: &Committed<J>,
+) -> bool
+    requires { MaySettle J.base seat.old answered.now }
+    ensures settled { result ≡ true → seat.new.committed ≡ seat.new.mine }
+    ensures either { (seat.new ≡ seat.old) ⊎ (seat.new ≡ record seat.old { committed = seat.old.mine }) }
+{
+    match answered {
+        Some(Ok(answer)) => seat.settle(answer, committed),
+        Some(Err(_)) | None => true,
     }
 }
 

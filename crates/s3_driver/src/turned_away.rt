@@ -25,7 +25,7 @@ pub fn turn_away<J: Ground, S: Stream + Drop>(
     requires entries { seat.mine ≡ [] }
     requires out { is_out roster.old.numbers seat.number ≡ true }
     ensures gone { roster.new.gone
-        ≡ roster.old.gone ++ record { number = seat.number; calls = []; seen = seat.seen; report = turned_away seat.number } ∷ [] }
+        ≡ roster.old.gone ++ record { number = seat.number; calls = []; seen = seat.seen; committed = seat.committed; report = turned_away seat.number } ∷ [] }
     ensures out { (n : ℕ) → is_out roster.new.numbers n ≡ (if n == seat.number then false else is_out roster.old.numbers n) }
     ensures index { roster.new.index ≡ roster.old.index }
     ensures stream { S.Device.traffic result ≡ S.Device.traffic stream }
@@ -34,6 +34,7 @@ pub fn turn_away<J: Ground, S: Stream + Drop>(
     connections_are_served();
     connections_have_written();
     drop(Driver::new(alloc));
+    seat.commits();
     roster.leave::<S, AsTurnedAway<S>>(seat, &stream);
     stream
 }

@@ -1,9 +1,11 @@
 -- Why the entries of those who have left are all entries, where their counts say so.
 use Rattle.std.proofs.Common.{◌≡◌, ◌≢◌, ◌≤◌, ◌+◌, ℕ, suc, Bool, true, false, cond, eqb, List, [], ◌∷◌, length, filter, ap, sym, subst, ◌∙◌, arith, refl}
 use Rattle.std.proofs.lemmas.Bool.Decides.{nat_tests}
+use mathlib.Core.List.{IsPrefix}
 use Rattle.s3_machine.specs.History.{Entry}
 use Rattle.s3_journal.specs.RecordedStore.{Journal, KeepsHistory}
 use Rattle.s3_journal.specs.Recorded.{Recorded, entries_of_seat, history_of}
+use Rattle.s3_journal.specs.Noted.{front_of}
 use Rattle.s3_journal.specs.SharedStore.{Base, Continues, IsAmong}
 use Rattle.s3_journal.specs.Gone.{Gone, AreApart, AreWhole, IsApart, IsClosed, count_of}
 use Rattle.s3_journal.specs.Roster.{AreGathered, HasGathered, Rostered, all_gone, first_of}
@@ -93,28 +95,30 @@ module _ {P : Type 0} where
         all_others g.number entries gone apart.0 (given_all (others g.number entries) gone apart.1 left (omega (arith, few, all, many))),
       )
 
-  module _ (fits : P → List Entry → Type 0) (entries : List Recorded) (first : ℕ) where
-    gone_among : (gone : List (Gone P)) → AreGathered fits entries first gone → AreAmong entries gone
+  module _ (fits : P → List Entry → List Entry → Type 0) (entries front : List Recorded) (first : ℕ) where
+    gone_among : (gone : List (Gone P)) → AreGathered fits entries front first gone → AreAmong entries gone
     gone_among [] are = tt
     gone_among (g ∷ gone) are =
         (subst (λ (es : List Entry). IsAmong g.calls es) (of_seat_is g.number entries) are.0.among, gone_among gone are.1)
 
-    whole : (gone : List (Gone P)) → AreGathered fits entries first gone → AreAll entries gone → AreWhole fits entries gone
+    whole : (gone : List (Gone P)) → AreGathered fits entries front first gone → AreAll entries gone → AreWhole fits entries front gone
     whole [] are all = tt
     whole (g ∷ gone) are all =
-        (record { all = of_seat_is g.number entries ∙ all.0; told = are.0.told; seen = are.0.begins }, whole gone are.1 all.1)
+        (record { all = of_seat_is g.number entries ∙ all.0; told = are.0.told; seen = are.0.begins; first = are.0.own; committed = are.0.committed }, whole gone are.1 all.1)
 
   -- where all rosters came back, and their shares count as many entries as there are
-  pub is_closed : (fits : P → List Entry → Type 0) (base : Base) (recorded_store : Journal) (rosters : List (Rostered P)) (index parts counted all : ℕ)
-      → HasGathered fits recorded_store.entries index rosters parts counted → Continues base recorded_store → KeepsHistory recorded_store → length recorded_store.entries ≡ all → counted ≡ all
+  pub is_closed : (fits : P → List Entry → List Entry → Type 0) (base : Base) (recorded_store : Journal) (rosters : List (Rostered P)) (index parts counted all : ℕ)
+      → HasGathered fits recorded_store.entries (front_of recorded_store.committed) index rosters parts counted → Continues base recorded_store → KeepsHistory recorded_store
+      → IsPrefix (front_of recorded_store.committed) recorded_store.entries → length recorded_store.entries ≡ all → counted ≡ all
       → IsClosed fits base recorded_store (all_gone rosters)
-  is_closed fits base recorded_store rosters index parts counted all gathered continues keeps same total =
+  is_closed fits base recorded_store rosters index parts counted all gathered continues keeps committed same total =
       let given = gathered.given in
       let gone = all_gone rosters in record {
         continues = continues;
         keeps = keeps;
+        committed = committed;
         apart = gathered.apart;
-        each = whole fits recorded_store.entries (first_of index) gone gathered.each
-            (given_all recorded_store.entries gone gathered.apart (gone_among fits recorded_store.entries (first_of index) gone gathered.each) (omega (arith, given, same, total)));
+        each = whole fits recorded_store.entries (front_of recorded_store.committed) (first_of index) gone gathered.each
+            (given_all recorded_store.entries gone gathered.apart (gone_among fits recorded_store.entries (front_of recorded_store.committed) (first_of index) gone gathered.each) (omega (arith, given, same, total)));
         count = omega (arith, given, same, total);
       }

@@ -80,46 +80,53 @@ module _ {P : Type 0} where
   count_join [] more = omega arith
   count_join (g ∷ some) more = let rest = count_join some more in omega (arith, rest)
 
-module _ {P : Type 0} (fits : P → List Entry → Type 0) (entries : List Recorded) where
-  is_apart_join : (number end : ℕ) (some more : List (Gone P)) → IsApart number some → number < end → AreGathered fits entries end more → IsApart number (some ++ more)
+module _ {P : Type 0} (fits : P → List Entry → List Entry → Type 0) (entries front : List Recorded) where
+  is_apart_join : (number end : ℕ) (some more : List (Gone P)) → IsApart number some → number < end → AreGathered fits entries front end more → IsApart number (some ++ more)
   is_apart_join number end [] [] apart less are = tt
   is_apart_join number end [] (g ∷ more) apart less are =
       let from = are.0.from in
       ((λ (same : g.number ≡ number). absurd (omega (arith, same, less, from))), is_apart_join number end [] more tt less are.1)
   is_apart_join number end (g ∷ some) more apart less are = (apart.0, is_apart_join number end some more apart.1 less are)
 
-  apart_join : (first end : ℕ) (numbers : Numbered) (seen : List Recorded) (some more : List (Gone P)) → AreApart some → AreGone fits first numbers seen some
-      → numbers.next ≤ end → AreApart more → AreGathered fits entries end more → AreApart (some ++ more)
-  apart_join first end numbers seen [] more apart gone less apart_more are = apart_more
-  apart_join first end numbers seen (g ∷ some) more apart gone less apart_more are =
+  apart_join : (first end : ℕ) (numbers : Numbered) (seen known : List Recorded) (some more : List (Gone P)) → AreApart some → AreGone fits first numbers seen known some
+      → numbers.next ≤ end → AreApart more → AreGathered fits entries front end more → AreApart (some ++ more)
+  apart_join first end numbers seen known [] more apart gone less apart_more are = apart_more
+  apart_join first end numbers seen known (g ∷ some) more apart gone less apart_more are =
       let below = gone.0.below in (
         is_apart_join g.number end some more apart.0 (omega (arith, below, less)) are,
-        apart_join first end numbers seen some more apart.1 gone.1 less apart_more are,
+        apart_join first end numbers seen known some more apart.1 gone.1 less apart_more are,
       )
 
-  gathered_from : (first end : ℕ) (gone : List (Gone P)) → first ≤ end → AreGathered fits entries end gone → AreGathered fits entries first gone
+  gathered_from : (first end : ℕ) (gone : List (Gone P)) → first ≤ end → AreGathered fits entries front end gone → AreGathered fits entries front first gone
   gathered_from first end [] less are = tt
   gathered_from first end (g ∷ gone) less are =
       let from = are.0.from in (
-        record { among = are.0.among; told = are.0.told; from = omega (arith, from, less); begins = are.0.begins },
+        record { among = are.0.among; told = are.0.told; own = are.0.own; committed = are.0.committed; from = omega (arith, from, less); begins = are.0.begins },
         gathered_from first end gone less are.1,
       )
 
-  gathered_join : (first end : ℕ) (numbers : Numbered) (seen : List Recorded) (some more : List (Gone P)) → IsPrefix seen entries → first ≤ end
-      → AreGone fits first numbers seen some → AreGathered fits entries end more → AreGathered fits entries first (some ++ more)
-  gathered_join first end numbers seen [] more begins less gone are = gathered_from first end more less are
-  gathered_join first end numbers seen (g ∷ some) more begins less gone are =
+  gathered_join : (first end : ℕ) (numbers : Numbered) (seen known : List Recorded) (some more : List (Gone P)) → IsPrefix seen entries → IsPrefix known front → first ≤ end
+      → AreGone fits first numbers seen known some → AreGathered fits entries front end more → AreGathered fits entries front first (some ++ more)
+  gathered_join first end numbers seen known [] more begins committed less gone are = gathered_from first end more less are
+  gathered_join first end numbers seen known (g ∷ some) more begins committed less gone are =
       let later = begins_later g.seen seen entries gone.0.begins begins in (
-        record { among = among_later g.number g.calls g.seen entries later gone.0.among; told = gone.0.told; from = gone.0.from; begins = later },
-        gathered_join first end numbers seen some more begins less gone.1 are,
+        record {
+          among = among_later g.number g.calls g.seen entries later gone.0.among;
+          told = gone.0.told;
+          own = gone.0.own;
+          committed = among_later g.number g.committed known front committed gone.0.committed;
+          from = gone.0.from;
+          begins = later;
+        },
+        gathered_join first end numbers seen known some more begins committed less gone.1 are,
       )
 
   -- one more roster came back, before the others
-  pub gathered_one : (base : Base) (index : ℕ) (roster : Rostered P) (back : List (Rostered P)) (origin : Origin) (parts amount shares counted parts' counted' : ℕ)
-      → IsRoster fits base roster origin parts amount → roster.index ≡ index → btree_set_len roster.numbers.out ≡ 0 → IsPrefix roster.seen entries
-      → HasGathered fits entries (index + 1) back shares counted → parts' ≡ shares + parts → counted' ≡ counted + amount
-      → HasGathered fits entries index (roster ∷ back) parts' counted'
-  gathered_one base index roster back origin parts amount shares counted parts' counted' is place nobody begins others more_parts more_counted =
+  pub gathered_one : (base : Base) (index : ℕ) (roster : Rostered P) (back : List (Rostered P)) (origin : Origin) (known : List Recorded) (parts amount shares counted parts' counted' : ℕ)
+      → IsRoster fits base roster origin known parts amount → roster.index ≡ index → btree_set_len roster.numbers.out ≡ 0 → IsPrefix roster.seen entries → IsPrefix known front
+      → HasGathered fits entries front (index + 1) back shares counted → parts' ≡ shares + parts → counted' ≡ counted + amount
+      → HasGathered fits entries front index (roster ∷ back) parts' counted'
+  gathered_one base index roster back origin known parts amount shares counted parts' counted' is place nobody begins committed others more_parts more_counted =
       let all = is.parts in
       let given = is.given in
       let few = is.few in
@@ -131,11 +138,11 @@ module _ {P : Type 0} (fits : P → List Entry → Type 0) (entries : List Recor
         all_back = (place, nobody_out roster.numbers nobody, others.all_back);
         shares = omega (arith, all, nobody, share_each, more_parts);
         given = omega (arith, given, others_given, both, more_counted);
-        apart = apart_join (first_of roster.index) (first_of (index + 1)) roster.numbers roster.seen roster.gone (all_gone back) is.apart is.each less others.apart others.each;
-        each = gathered_join (first_of index) (first_of (index + 1)) roster.numbers roster.seen roster.gone (all_gone back) begins (omega arith)
-            (subst (λ (i : ℕ). AreGone fits (first_of i) roster.numbers roster.seen roster.gone) place is.each) others.each;
+        apart = apart_join (first_of roster.index) (first_of (index + 1)) roster.numbers roster.seen known roster.gone (all_gone back) is.apart is.each less others.apart others.each;
+        each = gathered_join (first_of index) (first_of (index + 1)) roster.numbers roster.seen known roster.gone (all_gone back) begins committed (omega arith)
+            (subst (λ (i : ℕ). AreGone fits (first_of i) roster.numbers roster.seen known roster.gone) place is.each) others.each;
       }
 
   -- none has come back yet
-  pub gathered_none : (index : ℕ) (parts counted : ℕ) → parts ≡ 0 → counted ≡ 0 → HasGathered fits entries index [] parts counted
+  pub gathered_none : (index : ℕ) (parts counted : ℕ) → parts ≡ 0 → counted ≡ 0 → HasGathered fits entries front index [] parts counted
   gathered_none index parts counted no_parts nothing = record { all_back = tt; shares = no_parts; given = nothing; apart = tt; each = tt }

@@ -4,6 +4,7 @@ pub mod CrashLemmas
 pub mod GatherLemmas
 pub mod GoneLemmas
 pub mod HistoryLemmas
+pub mod NoteLemmas
 pub mod NumberLemmas
 pub mod RoomLemmas
 pub mod RosterLemmas

@@ -1,5 +1,6 @@
 pub mod Calls
 pub mod Gone
+pub mod Noted
 pub mod Recorded
 pub mod RecordedStore
 pub mod Roster

@@ -65,25 +65,28 @@ module _ {P : Type 0} where
 abbrev pub AreBelow : Numbered → Type 0
 AreBelow numbers = (n : ℕ) → is_out numbers n ≡ true → n < numbers.next
 
-module _ {P : Type 0} (fits : P → List Entry → Type 0) where
-  -- One that has left: its entries are among those of its number in what it had seen, and what was told of it fits them; and its
-  -- number is one of the roster's, which is not out and won't be given again.
-  pub record IsGone (first : ℕ) (numbers : Numbered) (seen : List Recorded) (g : Gone P) : Type 0 where
+module _ {P : Type 0} (fits : P → List Entry → List Entry → Type 0) where
+  -- One that has left: its entries are among those of its number in what it had seen, and what was told of it fits them; the first of
+  -- them, which it knew to be committed, are among those in what the roster knows to be; and its number is one of the roster's, which
+  -- is not out and won't be given again.
+  pub record IsGone (first : ℕ) (numbers : Numbered) (seen front : List Recorded) (g : Gone P) : Type 0 where
     pub among : IsAmong g.calls (entries_of_seat g.number g.seen)
-    pub told : fits g.report g.calls
+    pub told : fits g.report g.calls g.committed
+    pub own : IsPrefix g.committed g.calls
+    pub committed : IsAmong g.committed (entries_of_seat g.number front)
     pub from : first ≤ g.number
     pub below : g.number < numbers.next
     pub back : is_out numbers g.number ≡ false
     pub begins : IsPrefix g.seen seen
 
-  abbrev pub AreGone : ℕ → Numbered → List Recorded → List (Gone P) → Type 0
-  AreGone first numbers seen [] = Unit {0}
-  AreGone first numbers seen (g ∷ gone) = IsGone first numbers seen g × AreGone first numbers seen gone
+  abbrev pub AreGone : ℕ → Numbered → List Recorded → List Recorded → List (Gone P) → Type 0
+  AreGone first numbers seen front [] = Unit {0}
+  AreGone first numbers seen front (g ∷ gone) = IsGone first numbers seen front g × AreGone first numbers seen front gone
 
   -- What a roster keeps: each who is out or has left has a number of its own among those that it gave, of which some may have been given
   -- in vain, and at least one is never given; each of its shares is that of one who is out, or its own; and its own count the entries of
   -- those who have left.
-  pub record IsRoster (base : Base) (roster : Rostered P) (origin : Origin) (shares counted : ℕ) : Type 0 where
+  pub record IsRoster (base : Base) (roster : Rostered P) (origin : Origin) (front : List Recorded) (shares counted : ℕ) : Type 0 where
     pub same : origin ≡ base.origin
     pub came : first_of roster.index + (btree_set_len roster.numbers.out + length roster.gone) ≤ roster.numbers.next
     pub few : roster.numbers.next < first_of roster.index + seats_each
@@ -91,34 +94,39 @@ module _ {P : Type 0} (fits : P → List Entry → Type 0) where
     pub parts : shares + btree_set_len roster.numbers.out ≡ seats_each
     pub given : counted ≡ count_of roster.gone
     pub apart : AreApart roster.gone
-    pub each : AreGone (first_of roster.index) roster.numbers roster.seen roster.gone
+    pub each : AreGone (first_of roster.index) roster.numbers roster.seen front roster.gone
 
-  -- A roster was taken back: its shares are among those that there were, and the history begins with what it had seen.
-  pub record WasTaken (base : Base) (entries : List Recorded) (roster : Rostered P) (old_parts old_counted parts counted : ℕ) : Type 0 where
+  -- A roster was taken back: its shares are among those that there were, the history begins with what it had seen, and what was committed
+  -- with what it knew to be.
+  pub record WasTaken (base : Base) (entries front : List Recorded) (roster : Rostered P) (old_parts old_counted parts counted : ℕ) : Type 0 where
     pub own_shares : ℕ
     pub own_count : ℕ
-    pub kept : IsRoster base roster base.origin own_shares own_count
+    pub own_front : List Recorded
+    pub kept : IsRoster base roster base.origin own_front own_shares own_count
     pub begins : IsPrefix roster.seen entries
+    pub committed : IsPrefix own_front front
     pub shares : parts ≡ old_parts + own_shares
     pub given : counted ≡ old_counted + own_count
 
-  -- One that had left a roster that came back: its entries are among those of its number, what was told of it fits them, its number is
-  -- no less than this one, and the history begins with what it had seen.
-  pub record IsBack (entries : List Recorded) (first : ℕ) (g : Gone P) : Type 0 where
+  -- One that had left a roster that came back: its entries are among those of its number, what was told of it fits them, those that it
+  -- knew to be committed were, its number is no less than this one, and the history begins with what it had seen.
+  pub record IsBack (entries front : List Recorded) (first : ℕ) (g : Gone P) : Type 0 where
     pub among : IsAmong g.calls (entries_of_seat g.number entries)
-    pub told : fits g.report g.calls
+    pub told : fits g.report g.calls g.committed
+    pub own : IsPrefix g.committed g.calls
+    pub committed : IsAmong g.committed (entries_of_seat g.number front)
     pub from : first ≤ g.number
     pub begins : IsPrefix g.seen entries
 
-  abbrev pub AreGathered : List Recorded → ℕ → List (Gone P) → Type 0
-  AreGathered entries first [] = Unit {0}
-  AreGathered entries first (g ∷ gone) = IsBack entries first g × AreGathered entries first gone
+  abbrev pub AreGathered : List Recorded → List Recorded → ℕ → List (Gone P) → Type 0
+  AreGathered entries front first [] = Unit {0}
+  AreGathered entries front first (g ∷ gone) = IsBack entries front first g × AreGathered entries front first gone
 
   -- What is known when the last of all rosters were taken back, from this index on: each was at its place with nobody out; and all their
   -- shares, which count the entries of those who had left them, whose numbers differ.
-  pub record HasGathered (entries : List Recorded) (index : ℕ) (back : List (Rostered P)) (parts counted : ℕ) : Type 0 where
+  pub record HasGathered (entries front : List Recorded) (index : ℕ) (back : List (Rostered P)) (parts counted : ℕ) : Type 0 where
     pub all_back : AreBack index back
     pub shares : parts ≡ length back * seats_each
     pub given : counted ≡ count_of (all_gone back)
     pub apart : AreApart (all_gone back)
-    pub each : AreGathered entries (first_of index) (all_gone back)
+    pub each : AreGathered entries front (first_of index) (all_gone back)

@@ -1,5 +1,6 @@
 -- A shared store: a recorded store under one lock, for many at once.
-use Rattle.std.specs.Prelude.{◌≡◌, ℕ, ◌*◌, List, [], ◌∷◌, ◌⊎◌, length}
+use Rattle.std.specs.Prelude.{◌≡◌, ℕ, ◌+◌, ◌*◌, List, [], ◌∷◌, ◌⊎◌, length}
+use mathlib.Core.List.{IsPrefix}
 use Rattle.s3_config.specs.Settings.{Settings}
 use Rattle.s3_terms.specs.declared.dialect.Dialect.TheVariants.{Json}
 use Rattle.s3_history.specs.Log.{Origin}
@@ -7,6 +8,7 @@ use Rattle.s3_machine.specs.History.{Entry, Legal}
 use Rattle.s3_machine.specs.Rules.{rules_of}
 use Rattle.s3_records.specs.Catalogue.{opening}
 use Rattle.s3_store.specs.Steps.{Standing, opened}
+use Rattle.s3_journal.specs.Noted.{Known}
 use Rattle.s3_journal.specs.RecordedStore.{Journal}
 use Rattle.s3_journal.specs.Recorded.{Recorded, entries_of_seat, history_of}
 
@@ -45,11 +47,13 @@ pub record Opening : Type 0 where
   pub base : Base
   pub rosters : ℕ
 
--- a seat: its number, the entries that it was given, and the history as far as it has seen it
+-- a seat: its number, the entries that it was given, the history as far as it has seen it, and those of its entries that it knows to be
+-- committed
 pub record Seated : Type 0 where
   pub number : ℕ
   pub mine : List Entry
   pub seen : List Recorded
+  pub committed : List Entry
 
 module _ {A : Type 0} where
   -- a list has some of the elements of another, in their order
@@ -59,13 +63,22 @@ module _ {A : Type 0} where
 
 -- The rest serves clauses of private functions alone.
 
--- what a seat keeps: one share of the shared store's ledger, which counts its entries; and these are among those of its number in
--- the history as far as it has seen it
-pub record IsSeat (base : Base) (seat : Seated) (origin : Origin) (shares counted : ℕ) : Type 0 where
+-- what is known of a history that was committed: all of it, and the number of its next entry
+pub record IsCommitted (base : Base) (known : Known) (number : ℕ) : Type 0 where
+  pub same : known.origin ≡ base.origin
+  pub all : known.committed ≡ known.entries
+  pub next : number ≡ base.store.number + length known.entries
+
+-- what a seat keeps: one share of the shared store's ledger, which counts its entries; these are among those of its number in the
+-- history as far as it has seen it; and the first of them, which it knows to be committed, among those in what it knows to be
+pub record IsSeat (base : Base) (seat : Seated) (origin : Origin) (front : Known) (shares counted : ℕ) : Type 0 where
   pub same : origin ≡ base.origin
+  pub alike : front.origin ≡ base.origin
   pub one : shares ≡ 1
   pub count : counted ≡ length seat.mine
   pub among : IsAmong seat.mine (entries_of_seat seat.number seat.seen)
+  pub first : IsPrefix seat.committed seat.mine
+  pub committed : IsAmong seat.committed (entries_of_seat seat.number front.committed)
 
 -- What lies under a shared store's lock: the recorded store goes on from the base, the ledger counts its entries, and its parts
 -- are those that the rosters were given.

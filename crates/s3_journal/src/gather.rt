@@ -1,12 +1,14 @@
 //! Rosters, when they are handed out and when they come back.
 ghost use Rattle.std.specs.Prelude.{◌≡◌, ◌*◌, ◌==◌, ◌&&◌, true, length, IfOk, OnOk};
 ghost use Rattle.std.specs.BTreeSet.{btree_set_len};
+ghost use Rattle.s3_journal.specs.Noted.{front_of};
 ghost use Rattle.s3_journal.specs.SharedStore.{seats_each};
 ghost use Rattle.s3_journal.specs.Roster.{AreBack, AreNew, HasGathered, WasTaken};
 
 use crate::gone::Report;
 use crate::ground::{Ground, SEATS};
-use crate::recorded_store::{Prefix, RecordedStore};
+use crate::prefix::Prefix;
+use crate::recorded_store::RecordedStore;
 use crate::roster::Roster;
 use s3_records::Records;
 use s3_terms::NoMemory;
@@ -48,7 +50,7 @@ fn take_back<J: Ground, R: Records + Drop, P: Report>(
     ensures is { result ≡ (roster.index == index && btree_set_len roster.numbers.out == 0) }
     ensures recorded_store { recorded_store.new ≡ recorded_store.old }
     ensures taken { result ≡ true
-        → WasTaken (P.fits J.base) J.base recorded_store.old.entries roster shares.old.parts shares.old.amount shares.new.parts shares.new.amount }
+        → WasTaken (P.fits J.base) J.base recorded_store.old.entries (front_of recorded_store.old.committed) roster shares.old.parts shares.old.amount shares.new.parts shares.new.amount }
 {
     if !roster.is_back(index) {
         return false;
@@ -69,7 +71,8 @@ pub(crate) fn gather<J: Ground, R: Records + Drop, P: Report>(
     requires parts { shares.old.parts ≡ 0 }
     requires amount { shares.old.amount ≡ 0 }
     ensures recorded_store { recorded_store.new ≡ recorded_store.old }
-    ensures gathered { result ≡ true → HasGathered (P.fits J.base) recorded_store.old.entries 0 rosters.items shares.new.parts shares.new.amount }
+    ensures gathered { result ≡ true
+        → HasGathered (P.fits J.base) recorded_store.old.entries (front_of recorded_store.old.committed) 0 rosters.items shares.new.parts shares.new.amount }
     ensures back { AreBack 0 rosters.items → result ≡ true }
 {
     let mut rosters = rosters;

@@ -7,11 +7,13 @@
 #![tactic(auto)]
 
 mod calls;
+mod committed;
 mod entry;
 mod gather;
 mod gone;
 mod ground;
 mod numbers;
+mod prefix;
 mod recorded_store;
 mod room;
 mod roster;
@@ -20,10 +22,12 @@ mod shared_store;
 mod turns;
 
 pub use calls::Calls;
-pub use entry::Entry;
+pub use committed::Committed;
+pub use entry::{Entry, Note};
 pub use gone::{Gone, Report};
 pub use ground::{Ground, Start};
-pub use recorded_store::{Prefix, RecordedStore};
+pub use prefix::Prefix;
+pub use recorded_store::RecordedStore;
 pub use room::Closed;
 pub use roster::Roster;
 pub use seat::Seat;

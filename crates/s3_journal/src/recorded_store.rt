@@ -1,12 +1,14 @@
 //! The recorded store.
-ghost use Rattle.std.specs.Prelude.{◌≡◌, ◌++◌, ◌∷◌, List, [], false, length, Some, None, IfOk, OnOk, OnErr};
+ghost use Rattle.std.specs.Prelude.{◌≡◌, ◌≢◌, ◌++◌, ◌∷◌, List, [], false, length, Some, None, IfOk, IfSome, OnOk, OnErr};
 ghost use mathlib.Core.List.{IsPrefix};
 ghost use Rattle.s3_machine.specs.Step.{State};
 ghost use Rattle.s3_journal.specs.RecordedStore.{HasEntries, KeepsHistory, MayLack};
+ghost use Rattle.s3_journal.specs.Noted.{begun_with, front_of};
 ghost use Rattle.s3_journal.specs.Recorded.{Recorded, recorded};
 ghost use Rattle.s3_store.specs.Steps.{after_step, outcome_of};
 
-use crate::entry::Entry;
+use crate::entry::{AsCommit, AsEntry, Entry, Note};
+use crate::prefix::Prefix;
 use s3_history::{AsItself, Recorder};
 use s3_machine::{Answer, Rules, Turn, one_more_entry};
 use s3_records::{CommitError, Records};
@@ -16,10 +18,7 @@ use std::alloc::Global;
 use std::marker::Model;
 use std::snapshot::Snapshot;
 
-/// What is known of a recorded store's history: a beginning of it. It has no bytes.
-pub type Prefix = s3_history::Prefix<Entry>;
-
-/// A store, and the history of the commands that it answered, which no memory holds.
+/// A store, and the history of the commands that it answered and of its commits, which no memory holds.
 ///
 /// Contracts see which history it is, and the rules of its server. They see the store as it was when the recorded store was
 /// opened, the entries since then, and the store as it is; and the entries as they were at the last commit that answered `Ok`.
@@ -30,19 +29,20 @@ pub struct RecordedStore<R: Records + Drop> {
     store: Store<R>,
     rules: Rules,
     alloc: Global,
-    recorder: Recorder<Entry>,
+    recorder: Recorder<Note>,
     // The store at the opening, as the one entry of a history of its own.
     opening: s3_history::Prefix<Store<R>>,
     first: u64,
-    // What was known of the history at the last commit that answered `Ok`.
-    committed: Option<Prefix>,
+    // Whether nothing was answered since a commit.
+    is_settled: bool,
 }
 
 impl<R: Records + Drop> Model for RecordedStore<R> {
-    ghost use Rattle.std.specs.Prelude.{◌≡◌, [], ◌∷◌, IfSome, option_map};
+    ghost use Rattle.std.specs.Prelude.{◌≡◌, [], ◌∷◌, IfSome, false};
     ghost use Rattle.std.specs.Coded.{codes};
     ghost use Rattle.s3_store.specs.Steps.{coded_standing};
     ghost use Rattle.s3_journal.specs.RecordedStore.{Journal, KeepsHistory, LastsFrom, told_or};
+    ghost use Rattle.s3_journal.specs.Noted.{committed_in, ends_with_commit, entries_in};
 
     ghost Value = { Journal };
 
@@ -52,9 +52,9 @@ impl<R: Records + Drop> Model for RecordedStore<R> {
       origin = b.recorder.origin;
       rules = b.rules;
       opening = (told_or b.opening.entries b.store).standing;
-      entries = b.recorder.entries;
+      entries = entries_in b.recorder.entries;
       store = b.store.standing;
-      committed = option_map (λ known. known.entries) b.committed;
+      committed = committed_in b.recorder.entries;
     } };
 
     ghost invariant = { λ b. (b.opening.entries ≡ told_or b.opening.entries b.store ∷ [])
@@ -62,58 +62,80 @@ impl<R: Records + Drop> Model for RecordedStore<R> {
           origin = b.recorder.origin;
           rules = b.rules;
           opening = (told_or b.opening.entries b.store).standing;
-          entries = b.recorder.entries;
+          entries = entries_in b.recorder.entries;
           store = b.store.standing;
-          committed = option_map (λ known. known.entries) b.committed;
+          committed = committed_in b.recorder.entries;
         })
         × (b.first ≡ (told_or b.opening.entries b.store).standing.number)
-        × IfSome b.committed (λ known.
-        LastsFrom (R.leaves_one_of b.store.records) b.rules (told_or b.opening.entries b.store).standing.state b.recorder.entries known.entries) };
+        × IfSome (committed_in b.recorder.entries) (LastsFrom (R.leaves_one_of b.store.records) b.rules
+        (told_or b.opening.entries b.store).standing.state (entries_in b.recorder.entries))
+        × (b.is_settled ≡ ends_with_commit false b.recorder.entries) };
 }
 
 impl<R: Records + Drop> RecordedStore<R> {
-    /// A recorded store that opens with this store, with no entry. All commands go by these rules. The error never comes, though
-    /// no contract can say so.
+    /// A recorded store that opens with this store, with no entry. All commands go by these rules. What the records have is
+    /// committed first, so that a crash leaves the store as it opens, or nothing.
+    ///
+    /// # Errors
+    ///
+    /// `NoMemory` where that commit fails. Of records in memory it never comes, though no contract can say so.
     pub fn new(alloc: Global, rules: Rules, store: Store<R>) -> Result<RecordedStore<R>, NoMemory>
         ensures { IfOk result (λ recorded_store.
-            recorded_store ≡ record { origin = recorded_store.origin; rules = rules; opening = store.standing; entries = []; store = store.standing; committed = None }) }
+            recorded_store ≡ record { origin = recorded_store.origin; rules = rules; opening = store.standing; entries = []; store = store.standing; committed = Some [] }) }
     {
-        let Some(recorder) = Recorder::new() else {
+        let mut store = store;
+        match store.commit() {
+            Ok(()) => RecordedStore::begin(alloc, rules, store),
+            Err(_) => {
+                drop(store);
+                Err(NoMemory)
+            }
+        }
+    }
+
+    // The same with a store that was committed.
+    fn begin(alloc: Global, rules: Rules, store: Store<R>) -> Result<RecordedStore<R>, NoMemory>
+        requires settled { R.leaves_one_of store.records (store.standing.state ∷ []) }
+        ensures { IfOk result (λ recorded_store.
+            recorded_store ≡ record { origin = recorded_store.origin; rules = rules; opening = store.standing; entries = []; store = store.standing; committed = Some [] }) }
+    {
+        let Some(recorder) = begun(true) else {
             return Err(NoMemory);
         };
         let opening = told(&store)?;
         Ok(RecordedStore {
-            first: store.number(),
+            first: first_of(&store),
             opening,
             store,
             rules,
             alloc,
             recorder,
-            committed: None,
+            is_settled: true,
         })
     }
 
     /// Folds the history: it begins anew and empty, at the store as it is, whose next entry has the number that it would have had.
     /// So the two histories, one after another, are the history without a fold (`histories_are_cut_anywhere` of `s3_machine`), and
-    /// every later answer is as it would have been. It copies nothing, and takes the same time whatever the store holds. Nothing is
-    /// known of commits before it.
+    /// every later answer is as it would have been. It copies nothing, and takes the same time whatever the store holds. Where all
+    /// entries were committed, a crash leaves the state with which the new history begins. Else nothing is known of commits before it.
     ///
     /// # Errors
     ///
     /// `NoMemory` leaves all as it was. It never comes, though no contract can say so.
     pub fn fold(&mut self) -> Result<(), NoMemory>
         ensures ok { OnOk result (self.new
-            ≡ record { origin = self.new.origin; rules = self.old.rules; opening = self.old.store; entries = []; store = self.old.store; committed = None }) }
+            ≡ record { origin = self.new.origin; rules = self.old.rules; opening = self.old.store; entries = []; store = self.old.store; committed = self.new.committed }) }
+        ensures settled { OnOk result (self.old.committed ≡ Some self.old.entries → self.new.committed ≡ Some []) }
+        ensures unsettled { OnOk result (self.old.committed ≢ Some self.old.entries → self.new.committed ≡ None) }
         ensures err { OnErr result (self.new ≡ self.old) }
     {
-        let Some(recorder) = Recorder::new() else {
+        let Some(recorder) = begun(self.is_settled) else {
             return Err(NoMemory);
         };
         let opening = told(&self.store)?;
-        self.first = self.store.number();
+        self.first = first_of(&self.store);
         self.opening = opening;
         self.recorder = recorder;
-        self.committed = None;
         Ok(())
     }
 
@@ -156,7 +178,8 @@ impl<R: Records + Drop> RecordedStore<R> {
             turn: asked,
             answer: Snapshot::of(&answer),
         };
-        self.recorder.record::<Entry, AsItself>(&entry);
+        self.recorder.record::<Entry, AsEntry>(&entry);
+        self.is_settled = false;
         Ok(answer)
     }
 
@@ -172,7 +195,8 @@ impl<R: Records + Drop> RecordedStore<R> {
     {
         match self.store.commit() {
             Ok(()) => {
-                self.committed = Some(self.recorder.prefix());
+                self.recorder.record::<(), AsCommit>(&());
+                self.is_settled = true;
                 Ok(())
             }
             Err(error) => Err(error),
@@ -192,10 +216,11 @@ impl<R: Records + Drop> RecordedStore<R> {
     }
 
     /// The store as it is, to which the history leads. The history is legal, so that every law of `s3_machine` about legal
-    /// histories holds of it.
+    /// histories holds of it, and begins with what was committed.
     pub fn store(&self) -> &Store<R>
         ensures value { result.now.standing ≡ self.now.store }
         ensures history { KeepsHistory self.now }
+        ensures committed { IsPrefix (front_of self.now.committed) self.now.entries }
     {
         &self.store
     }
@@ -209,19 +234,38 @@ impl<R: Records + Drop> RecordedStore<R> {
 
     /// What is known of the history now: all of it.
     pub fn prefix(&self) -> Prefix
-        ensures { result ≡ record { origin = self.now.origin; entries = self.now.entries } }
+        ensures { result ≡ record { origin = self.now.origin; entries = self.now.entries; committed = front_of self.now.committed } }
     {
-        self.recorder.prefix()
+        Prefix::new(self.recorder.prefix())
     }
 
-    /// What is known of the history begins it.
+    /// What is known of the history begins it, and what is known to be committed begins what is.
     pub fn check(&mut self, known: &Prefix)
         requires { known.now.origin ≡ self.old.origin }
         ensures same { self.new ≡ self.old }
         ensures begins { IsPrefix known.now.entries self.old.entries }
+        ensures committed { IsPrefix known.now.committed (front_of self.old.committed) }
     {
-        self.recorder.check(known);
+        self.recorder.check(known.notes());
     }
+}
+
+// A new history: with a commit, if all before it was committed.
+fn begun(is_settled: bool) -> Option<Recorder<Note>>
+    ensures { IfSome result (λ recorder. recorder.entries ≡ begun_with is_settled) }
+{
+    let mut recorder = Recorder::new()?;
+    if is_settled {
+        recorder.record::<(), AsCommit>(&());
+    }
+    Some(recorder)
+}
+
+// The number of the first entry of a history that opens with this store.
+fn first_of<R: Records + Drop>(store: &Store<R>) -> u64
+    ensures { result ≡ store.now.standing.number }
+{
+    store.number()
 }
 
 // A history whose one entry is this store.

@@ -8,10 +8,12 @@ ghost use Rattle.s3_journal.specs.Gone.{IsClosed};
 ghost use Rattle.s3_journal.specs.Recorded.{recorded};
 ghost use Rattle.s3_journal.specs.Roster.{AreBack, all_gone};
 
+use crate::committed::Committed;
 use crate::gather::gather;
 use crate::gone::Report;
 use crate::ground::Ground;
-use crate::recorded_store::{Prefix, RecordedStore};
+use crate::prefix::Prefix;
+use crate::recorded_store::RecordedStore;
 use crate::roster::Roster;
 use crate::seat::Seat;
 use s3_machine::{Answer, Turn};
@@ -100,6 +102,7 @@ impl<J: Ground, R: Records + Drop> Room<J, R> {
         ensures err { OnErr result (self.new ≡ self.old) }
         ensures begins { IsPrefix seat.old.seen self.old }
         ensures seen { seat.new.seen ≡ self.new }
+        ensures committed { seat.new.committed ≡ seat.old.committed }
     {
         let asked = Snapshot::of(&turn);
         match answer_turn(&mut self.recorded_store, seat.known(), seat.number(), turn) {
@@ -120,12 +123,19 @@ impl<J: Ground, R: Records + Drop> Room<J, R> {
         }
     }
 
-    /// Commits all turns so far.
-    pub(crate) fn commit(&mut self) -> Result<(), CommitError>
+    /// Commits all turns so far, and tells so.
+    pub(crate) fn commit(&mut self) -> Result<Committed<J>, CommitError>
+        ensures committed { IfOk result (λ committed. committed ≡ self.old) }
         ensures same { self.new ≡ self.old }
         ensures memory { OnErr result (R.is_in_memory ≡ false) }
     {
-        self.recorded_store.commit()
+        match self.recorded_store.commit() {
+            Ok(()) => {
+                let number = self.recorded_store.store().number();
+                Ok(Committed::new(self.recorded_store.prefix(), number))
+            }
+            Err(error) => Err(error),
+        }
     }
 
     /// What is left when all rosters have come back.

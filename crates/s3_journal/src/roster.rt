@@ -9,7 +9,7 @@ use crate::calls::Calls;
 use crate::gone::{AsGone, Gone, Leaving, Report};
 use crate::ground::{Ground, SEATS};
 use crate::numbers::Numbers;
-use crate::recorded_store::Prefix;
+use crate::prefix::Prefix;
 use crate::seat::Seat;
 use s3_history::{Describes, Recorder};
 use s3_terms::NoMemory;
@@ -39,7 +39,7 @@ impl<J: Ground, P: Report> Model for Roster<J, P> {
     ghost view = { λ r. record { index = r.index; numbers = r.numbers; gone = r.gone.entries; seen = r.known.entries } };
 
     ghost invariant = { λ r. IsRoster (P.fits J.base) J.base (record { index = r.index; numbers = r.numbers; gone = r.gone.entries; seen = r.known.entries })
-        r.known.origin r.share.parts r.share.amount };
+        r.known.origin r.known.committed r.share.parts r.share.amount };
 }
 
 // Notes one that has left.
@@ -48,15 +48,17 @@ fn note<X, P, D: Describes<X, P>>(
     number: u64,
     calls: &Calls,
     known: &Prefix,
+    committed: Snapshot<Calls>,
     about: &X,
 )
     ensures { gone.new.entries
-        ≡ gone.old.entries ++ record { number = number; calls = calls.now; seen = known.now.entries; report = D.entry about.now } ∷ [] }
+        ≡ gone.old.entries ++ record { number = number; calls = calls.now; seen = known.now.entries; committed = committed.value; report = D.entry about.now } ∷ [] }
 {
     let leaving = Leaving {
         number,
         calls: Snapshot::of(calls),
         seen: Snapshot::of(known),
+        committed,
         about: Snapshot::of(about),
     };
     gone.record::<Leaving<X>, AsGone<D>>(&leaving);
@@ -124,19 +126,20 @@ impl<J: Ground, P: Report> Roster<J, P> {
     /// Takes a seat back, with what `D` tells of a value. That has to fit the seat's entries, and the seat has to be one that this
     /// roster gave. It takes no memory.
     pub fn leave<X, D: Describes<X, P>>(&mut self, seat: Seat<J>, about: &X)
-        requires fits { P.fits J.base (D.entry about.now) seat.mine }
+        requires fits { P.fits J.base (D.entry about.now) seat.mine seat.committed }
         requires out { is_out self.old.numbers seat.number ≡ true }
         ensures gone { self.new.gone
-            ≡ self.old.gone ++ record { number = seat.number; calls = seat.mine; seen = seat.seen; report = D.entry about.now } ∷ [] }
+            ≡ self.old.gone ++ record { number = seat.number; calls = seat.mine; seen = seat.seen; committed = seat.committed; report = D.entry about.now } ∷ [] }
         ensures out { (n : ℕ) → is_out self.new.numbers n ≡ (if n == seat.number then false else is_out self.old.numbers n) }
         ensures index { self.new.index ≡ self.old.index }
         ensures known { IsPrefix self.old.seen self.new.seen }
         ensures learned { IsPrefix seat.seen self.new.seen }
     {
-        let (number, calls, known, share) = seat.into_parts();
-        note::<X, P, D>(&mut self.gone, number, &calls, &known, about);
+        let (number, calls, known, share, committed, mut front) = seat.into_parts();
+        note::<X, P, D>(&mut self.gone, number, &calls, &known, committed, about);
         self.numbers.take(number);
-        self.known.learn(&known);
+        front.learn(&known);
+        self.known.learn(&front);
         self.share.merge(share);
     }
 
@@ -151,7 +154,7 @@ impl<J: Ground, P: Report> Roster<J, P> {
         ensures known { IsPrefix self.old.seen self.new.seen }
         ensures learned { IsPrefix seat.seen self.new.seen }
     {
-        let (number, _, known, share) = seat.into_parts();
+        let (number, _, known, share, _, _) = seat.into_parts();
         self.numbers.take(number);
         self.known.learn(&known);
         self.share.merge(share);
@@ -166,8 +169,8 @@ impl<J: Ground, P: Report> Roster<J, P> {
 
     // What is known of the history, and its shares.
     pub(crate) fn into_parts(self) -> (Prefix, Share<J>)
-        ensures known { result.0 ≡ record { origin = J.base.origin; entries = self.seen } }
-        ensures roster { IsRoster (P.fits J.base) J.base self result.0.origin result.1.parts result.1.amount }
+        ensures known { result.0 ≡ record { origin = J.base.origin; entries = self.seen; committed = result.0.committed } }
+        ensures roster { IsRoster (P.fits J.base) J.base self result.0.origin result.0.committed result.1.parts result.1.amount }
     {
         let Roster {
             index: _,

@@ -83,7 +83,7 @@ impl<J: Ground, R: Records + Drop> SharedStore<J, R> {
         let mut turns = self.turns(rt);
         let answer = turns.answer(seat, turn)?;
         match turns.commit() {
-            Ok(()) => Ok(answer),
+            Ok(_) => Ok(answer),
             Err(_) => {
                 drop(answer);
                 Err(NoMemory)

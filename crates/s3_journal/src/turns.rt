@@ -5,6 +5,7 @@ ghost use mathlib.Core.List.{IsPrefix};
 ghost use Rattle.s3_journal.specs.Calls.{IsAnswered, LacksMemory};
 ghost use Rattle.s3_journal.specs.Recorded.{recorded};
 
+use crate::committed::Committed;
 use crate::ground::Ground;
 use crate::room::Room;
 use crate::seat::Seat;
@@ -55,18 +56,20 @@ impl<'a, J: Ground, R: Records + Drop> Turns<'a, J, R> {
         ensures err { OnErr result (self.new ≡ self.old) }
         ensures begins { IsPrefix seat.old.seen self.old }
         ensures seen { seat.new.seen ≡ self.new }
+        ensures committed { seat.new.committed ≡ seat.old.committed }
     {
         self.room.answer(seat, turn)
     }
 
-    /// Commits the turns of the batch, and lets the lock go. Where it answers `Ok`, their answers may be told: the recorded store has
-    /// committed them, and `RecordedStore::outlive_crashes` says what a crash leaves then. No clause of this call does.
+    /// Commits the turns of the batch and all before them, lets the lock go, and tells so: their answers may be told
+    /// (`Seat::settle`). The recorded store has committed them, and `RecordedStore::outlive_crashes` says what a crash leaves then.
     ///
     /// # Errors
     ///
     /// `CommitError::NoMemory`: the caller may ask again, by an empty batch. `CommitError::Failed`: no answer of the batch may be
     /// told. The turns are entries of the history in either case. Records in memory have no error here.
-    pub fn commit(self) -> Result<(), CommitError>
+    pub fn commit(self) -> Result<Committed<J>, CommitError>
+        ensures committed { IfOk result (λ committed. committed ≡ self.entry) }
         ensures memory { OnErr result (R.is_in_memory ≡ false) }
     {
         let Turns { mut room } = self;

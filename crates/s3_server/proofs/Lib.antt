@@ -1,4 +1,5 @@
 pub mod BaseLemmas
 pub mod RoundLemmas
+pub mod SendLemmas
 pub mod ServedLemmas
 pub mod ToldLemmas

@@ -4,6 +4,7 @@ use Rattle.std.specs.Prelude.{IfOk, OnOk}
 use Rattle.s3_config.specs.Settings.{Settings}
 use Rattle.s3_machine.specs.Rules.{rules_of}
 use Rattle.s3_store.specs.Steps.{Standing}
+use Rattle.s3_journal.specs.Noted.{front_of}
 use Rattle.s3_journal.specs.RecordedStore.{Journal}
 use Rattle.s3_journal.specs.SharedStore.{Base}
 use Rattle.s3_journal.specs.Gone.{Gone, AreWhole, IsClosed}
@@ -16,15 +17,16 @@ use Rattle.s3_server.specs.Served.{AllHavePassed, AreFresh, HasLeft, HasWorked, 
 
 -- what a shared store left
 pub has_left : (settings : Settings) (base : Base) (left : Journal) (gone : List (Gone Account)) (earlier later : List ServerRun)
-    → IsClosed (Fits base.settings) base left gone → base.settings ≡ settings → later ≡ earlier ++ record { history = left.entries; gone = gone } ∷ []
+    → IsClosed (Fits base.settings) base left gone → base.settings ≡ settings → later ≡ earlier ++ record { history = left.entries; committed = front_of left.committed; gone = gone } ∷ []
     → HasLeft settings base.store gone earlier later left
 has_left settings base left gone earlier later closed same told = record {
   reported = told;
   rules = closed.continues.rules ∙ ap rules_of same;
   from = closed.continues.store;
   keeps = closed.keeps;
+  committed = closed.committed;
   apart = closed.apart;
-  each = subst (λ (s : Settings). AreWhole (Fits s) left.entries gone) same closed.each;
+  each = subst (λ (s : Settings). AreWhole (Fits s) left.entries (front_of left.committed) gone) same closed.each;
   count = closed.count;
 }
 
@@ -85,13 +87,14 @@ has_worked : (settings : Settings) (base : Standing) (workers : ℕ) (before aft
     → length rosters ≡ workers → HasLeft settings base (all_gone rosters) earlier later left → HaveClosed before after rosters → AreBack 0 rosters → AllAreClosed after
     → HasWorked settings base workers before after earlier later left
 has_worked settings base workers before after earlier later rosters left len was have back closed = record {
-  round = record { doors = have.doors; run = record { history = left.entries; gone = all_gone rosters } };
+  round = record { doors = have.doors; run = record { history = left.entries; committed = front_of left.committed; gone = all_gone rosters } };
   is = record {
     each_worker = same_length have.doors rosters have.each ∙ len;
     handed = all_counted 0 have.doors rosters have.each back;
     back = all_told have.doors rosters have.each;
     named = all_named have.doors rosters have.each;
     apart = was.apart;
+    committed = was.committed;
     each = was.each;
     count = was.count;
   };

@@ -6,6 +6,7 @@ use Rattle.std.specs.Io.KnownBytes.{Appends}
 use Rattle.std.specs.List.{AllByRecursion}
 use Rattle.std.specs.Net.Text.{socket_text}
 use Rattle.std.specs.declared.net.socket_addr.SocketAddr.{SocketAddr}
+use mathlib.Core.List.{IsPrefix}
 use Rattle.s3_text.specs.Characters.{line_feed}
 use Rattle.s3_config.specs.Settings.{Settings}
 use Rattle.s3_settings.specs.declared.options.ServeOptions.{ServeOptions}
@@ -16,6 +17,7 @@ use Rattle.s3_keepers.specs.Begun.{HasBuckets}
 use Rattle.s3_machine.specs.Bases.{IsSoundBase}
 use Rattle.s3_machine.specs.History.{Legal, after}
 use Rattle.s3_machine.specs.Rules.{rules_of}
+use Rattle.s3_journal.specs.Noted.{front_of}
 use Rattle.s3_journal.specs.RecordedStore.{Journal, KeepsHistory}
 use Rattle.s3_journal.specs.Recorded.{Recorded, history_of}
 use Rattle.s3_journal.specs.Gone.{Gone, AreApart, AreWhole, count_of}
@@ -26,13 +28,15 @@ use Rattle.s3_driver.specs.Account.{Account, Fits}
 use Rattle.s3_sockets.specs.Door.{AreNamed, HasPassed, Passed, numbers_of, times, traffic_told}
 use Rattle.s3_sockets.specs.Network.{AllAreClosed, NetworkState, all_back, all_handed}
 
--- what a server has reported of a round that has ended: the history of its store in that round, and the connections that have left it
+-- what a server has reported of a round that has ended: the history of its store in that round, as much of it as was committed, and the
+-- connections that have left it
 pub record ServerRun : Type 0 where
   pub history : List Recorded
+  pub committed : List Recorded
   pub gone : List (Gone Account)
 
 abbrev pub nothing_done : ServerRun
-nothing_done = record { history = []; gone = [] }
+nothing_done = record { history = []; committed = []; gone = [] }
 
 -- a round that has ended: the doors that were closed, and what was reported
 pub record Round : Type 0 where
@@ -47,13 +51,17 @@ pub record Round : Type 0 where
 -- Each connection has a number of its own; the entries of this number are just those that its commands made, in their order; its
 -- account fits them: what it wrote is, message by message, the printed answer of an entry or a refusal, for the bytes that it was given,
 -- whole where it was closed (or memory ran out, which the output tells), and else a beginning of that. And there are no other entries.
+--
+-- The history begins with what was committed of it. What was written is a beginning of the output for the connection's first entries
+-- alone, which are among those that were committed: no answer of another entry was told.
 pub record IsRound (settings : Settings) (workers : ℕ) (round : Round) : Type 0 where
   pub each_worker : length round.doors ≡ workers
   pub handed : (n : ℕ) → times n (all_handed round.doors) ≡ times n (numbers_of round.run.gone)
   pub back : all_back round.doors ≡ traffic_told round.run.gone
   pub named : AreNamed round.run.gone
   pub apart : AreApart round.run.gone
-  pub each : AreWhole (Fits settings) round.run.history round.run.gone
+  pub committed : IsPrefix round.run.committed round.run.history
+  pub each : AreWhole (Fits settings) round.run.history round.run.committed round.run.gone
   pub count : length round.run.history ≡ count_of round.run.gone
 
 -- of all rounds, in their order: the doors, what was reported, and the entries; and how many entries each has
@@ -173,12 +181,13 @@ pub record HaveClosed (before after : NetworkState) (rosters : List (Rostered Ac
 
 -- a shared store left this recorded store and these connections, which is reported
 pub record HasLeft (settings : Settings) (base : Standing) (gone : List (Gone Account)) (earlier later : List ServerRun) (left : Journal) : Type 0 where
-  pub reported : later ≡ earlier ++ record { history = left.entries; gone = gone } ∷ []
+  pub reported : later ≡ earlier ++ record { history = left.entries; committed = front_of left.committed; gone = gone } ∷ []
   pub rules : left.rules ≡ rules_of settings
   pub from : left.opening ≡ base
   pub keeps : KeepsHistory left
+  pub committed : IsPrefix (front_of left.committed) left.entries
   pub apart : AreApart gone
-  pub each : AreWhole (Fits settings) left.entries gone
+  pub each : AreWhole (Fits settings) left.entries (front_of left.committed) gone
   pub count : length left.entries ≡ count_of gone
 
 -- a round has served from this store on, on an address on which it was asked to listen before, and left this recorded store

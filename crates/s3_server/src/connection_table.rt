@@ -194,12 +194,17 @@ impl<S: Service> ConnectionTable<S> {
         match self.take(key) {
             Some(held) => {
                 S::leave(held, &mut self.door);
-                self.count = self.count.saturating_sub(1);
-                self.free(key);
+                self.forget(key);
                 true
             }
             None => false,
         }
+    }
+
+    // The one that had this key has left.
+    fn forget(&mut self, key: usize) {
+        self.count = self.count.saturating_sub(1);
+        self.free(key);
     }
 
     /// Has the one under a key leave, if there is one, and gives its slot back.
@@ -277,13 +282,18 @@ impl<S: Service> ConnectionTable<S> {
         if !self.has_turns() && !self.has_unheard() {
             return Ok(());
         }
-        self.submit_all(service, slots, now)?;
-        self.tell_answers(service, slots, buffer, registry, now);
+        let committed = self.submit_all(service, slots, now)?;
+        self.tell_answers(service, slots, buffer, registry, now, &committed);
         Ok(())
     }
 
     // Takes the turns that wait to the store, and commits them with those before.
-    fn submit_all(&mut self, service: &S, slots: &Slots, now: &Now) -> Result<(), CommitError> {
+    fn submit_all(
+        &mut self,
+        service: &S,
+        slots: &Slots,
+        now: &Now,
+    ) -> Result<S::Committed, CommitError> {
         let mut turns = service.begin();
         for place in 0..self.asking.len() {
             if let Some(&key) = self.asking.get(place) {
@@ -306,7 +316,7 @@ impl<S: Service> ConnectionTable<S> {
         }
     }
 
-    // Gives all their answers, in the order of their turns, and has each go on. These may be told.
+    // Gives all their answers, in the order of their turns, and has each go on. They were committed.
     fn tell_answers(
         &mut self,
         service: &S,
@@ -314,11 +324,12 @@ impl<S: Service> ConnectionTable<S> {
         buffer: &mut [u8],
         registry: &Registry,
         now: &Now,
+        committed: &S::Committed,
     ) {
         self.answered.reverse();
         for _ in 0..self.answered.len() {
             if let Some(answered) = self.answered.pop() {
-                let key = self.hear(service, answered);
+                let key = self.hear(service, slots, answered, committed);
                 self.serve(service, slots, buffer, registry, key, now);
             }
         }
@@ -333,16 +344,28 @@ impl<S: Service> ConnectionTable<S> {
         }
     }
 
-    // Has one leave whose answer may not be told: it goes on no more, so that nothing of the answer is written.
+    // Has one leave whose answer may not be told: nothing of it is written.
     fn let_unheard_one_go(&mut self, service: &S, slots: &Slots, answered: S::Answered) {
-        let key = self.hear(service, answered);
-        self.let_go(slots, key);
+        let key = S::key(&answered);
+        service.leave_untold(answered, &mut self.door);
+        self.forget(key);
+        slots.give_slot();
     }
 
-    // Gives one its answer, puts it back into its place, and answers the key of that.
-    fn hear(&mut self, service: &S, answered: S::Answered) -> usize {
+    // Gives one its answer, puts it back into its place, and answers the key of that. One whose answer wasn't committed leaves.
+    fn hear(
+        &mut self,
+        service: &S,
+        slots: &Slots,
+        mut answered: S::Answered,
+        committed: &S::Committed,
+    ) -> usize {
         let key = S::key(&answered);
-        self.put(key, service.hear(answered));
+        if S::may_hear(&mut answered, committed) {
+            self.put(key, service.hear(answered));
+        } else {
+            self.let_unheard_one_go(service, slots, answered);
+        }
         key
     }
 

@@ -1,6 +1,7 @@
 //! What is told of servers that have ended.
 
 ghost use Rattle.std.specs.Prelude.{◌≡◌, ◌++◌, ◌∷◌, [], IfSome};
+ghost use Rattle.s3_journal.specs.Noted.{front_of};
 ghost use Rattle.s3_journal.specs.Roster.{all_gone};
 
 use s3_driver::Account;
@@ -25,12 +26,13 @@ impl Model for EndedServer {
 struct AsLeft;
 
 impl<J: Ground, K: Records + Drop> Describes<Closed<J, K, Account>, EndedServer> for AsLeft {
+    ghost use Rattle.s3_journal.specs.Noted.{front_of};
     ghost use Rattle.s3_journal.specs.Roster.{all_gone};
 
-    ghost entry = { λ closed. record { history = closed.recorded_store.entries; gone = all_gone closed.rosters.value.items } };
+    ghost entry = { λ closed. record { history = closed.recorded_store.entries; committed = front_of closed.recorded_store.committed; gone = all_gone closed.rosters.value.items } };
 }
 
-/// What is told of servers that have ended: of each the history of its store, and the connections that left it, with the accounts of
+/// What is told of servers that have ended: of each the history of its store, what of it was committed, and the connections that left it, with the accounts of
 /// what their sockets gave and took. It stands in the proofs alone, and has a few words. Contracts see it.
 #[derive(Drop)]
 pub struct ServerReport {
@@ -58,7 +60,8 @@ impl ServerReport {
 
     // Tells what a server has done whose shared store left this.
     pub(crate) fn tell<J: Ground, K: Records + Drop>(&mut self, closed: &Closed<J, K, Account>)
-        ensures { self.new ≡ self.old ++ record { history = closed.now.recorded_store.entries; gone = all_gone closed.now.rosters.value.items } ∷ [] }
+        ensures { self.new ≡ self.old
+            ++ record { history = closed.now.recorded_store.entries; committed = front_of closed.now.recorded_store.committed; gone = all_gone closed.now.rosters.value.items } ∷ [] }
     {
         self.ended.record::<Closed<J, K, Account>, AsLeft>(closed);
     }

@@ -61,10 +61,10 @@ pub record HasPassed (passed : Passed) (roster : Rostered Account) : Type 0 wher
 
 -- what is told of a connection that leaves, and of one that is turned away
 abbrev pub gone_of : Served → Gone Account
-gone_of s = record { number = s.seat.number; calls = s.seat.mine; seen = s.seat.seen; report = account_of s }
+gone_of s = record { number = s.seat.number; calls = s.seat.mine; seen = s.seat.seen; committed = s.seat.committed; report = account_of s }
 
 abbrev pub turned_away_of : Seated → Gone Account
-turned_away_of seat = record { number = seat.number; calls = []; seen = seat.seen; report = turned_away seat.number }
+turned_away_of seat = record { number = seat.number; calls = []; seen = seat.seen; committed = seat.committed; report = turned_away seat.number }
 
 -- The rest serves the invariant of a door, and clauses of private functions.
 

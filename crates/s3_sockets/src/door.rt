@@ -10,12 +10,13 @@ use crate::socket::Socket;
 use mio::net::TcpListener;
 use mio::{Interest, Registry, Token};
 use s3_devices::Recorded;
-use s3_driver::{Account, MessageObserver, ServedConnection, turn_away};
+use s3_driver::{Account, AnsweredConnection, MessageObserver, ServedConnection, turn_away};
 use s3_history::{AsItself, Describes, Recorder};
 use s3_journal::{Ground, Roster};
 use std::alloc::Global;
 use std::io::ErrorKind;
 use std::marker::Model;
+use std::time::Instant;
 
 /// The traffic of a socket that was taken back. No value of it is made: a history consists of them.
 pub struct TakenBack;
@@ -247,6 +248,30 @@ impl<J: Ground> Door<J> {
         // No other door's connections come here.
         if self.roster.has(connection.number()) {
             let stream = connection.leave(&mut self.roster);
+            take_back(&mut self.back, stream);
+        } else {
+            drop(connection);
+        }
+    }
+
+    /// Has a connection leave that hasn't heard its answer: its socket is closed, and nothing of the answer is written.
+    pub(crate) fn leave_untold<O: MessageObserver + Drop>(
+        &mut self,
+        alloc: Global,
+        connection: AnsweredConnection<J, Recorded<Socket>, O>,
+        now: Instant,
+    )
+        ensures out { (n : ℕ) → is_out self.new.roster.numbers n
+            ≡ (if n == connection.served.seat.number then false else is_out self.old.roster.numbers n) }
+        ensures back { is_out self.old.roster.numbers connection.served.seat.number ≡ true
+            → self.new.passed.back ≡ self.old.passed.back ++ connection.served.traffic ∷ [] }
+        ensures gone { is_out self.old.roster.numbers connection.served.seat.number ≡ true
+            → self.new.roster.gone ≡ self.old.roster.gone ++ gone_of connection.served ∷ [] }
+        ensures handed { self.new.passed.handed ≡ self.old.passed.handed }
+    {
+        // No other door's connections come here.
+        if self.roster.has(connection.number()) {
+            let stream = connection.leave(alloc, now, &mut self.roster);
             take_back(&mut self.back, stream);
         } else {
             drop(connection);

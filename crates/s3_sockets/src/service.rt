@@ -19,8 +19,8 @@ use std::time::{Clock, Instant};
 /// the door. Contracts see by which number it is known, which doesn't change, whose place is whose, which numbers a door handed out
 /// and which of them are out.
 pub trait Service: Sized {
-    // The number of one that has come, of a connection, of one that was answered, and of the one in a place; and whether the one of
-    // a number came by a door and hasn't left.
+    // The number of one that has come, of a connection, of one that was answered, and of the one in a place; whether the one of
+    // a number came by a door and hasn't left; and that what the store did for one that was answered was committed.
     ghost arrival_number: { Self.Arrival → ℕ };
 
     ghost held_number: { Self.Held → ℕ };
@@ -32,6 +32,8 @@ pub trait Service: Sized {
     ghost is_out: { Self.Door → ℕ → Bool };
 
     ghost handed: { Self.Door → List ℕ };
+
+    ghost is_committed: { Self.Answered → Type 0 };
 
     /// By what connections come to a worker, and leave it.
     type Door;
@@ -50,6 +52,9 @@ pub trait Service: Sized {
 
     /// Turns at the store that are taken in one go.
     type Turns;
+
+    /// That a commit answered `Ok`: what it committed.
+    type Committed: Drop;
 
     /// What is waited with, and what tells the time.
     type Runtime: Wait + Clock;
@@ -101,20 +106,30 @@ pub trait Service: Sized {
     fn submit(held: Self::Held, key: usize, turns: &mut Self::Turns, now: Instant) -> Self::Answered
         ensures number { answered_number result ≡ held_number held };
 
-    /// Commits the turns, and all that came to the store before them. Where it answers `Ok`, all their answers may be told.
+    /// Commits the turns, and all that came to the store before them. By what it answers they may hear their answers (`may_hear`).
     ///
     /// # Errors
     ///
     /// `CommitError::NoMemory` where that isn't known yet: it may be asked again by no turns at all. `CommitError::Failed` where what
     /// keeps the records has failed, for good: no answer may be told that no earlier commit allowed.
-    fn commit(turns: Self::Turns) -> Result<(), CommitError>;
+    fn commit(turns: Self::Turns) -> Result<Self::Committed, CommitError>;
 
     /// The key of its place.
     fn key(answered: &Self::Answered) -> usize;
 
+    /// Whether a connection may hear its answer: what the store did for it was committed, by this commit or an earlier one.
+    fn may_hear(one: &mut Self::Answered, committed: &Self::Committed) -> bool
+        ensures committed { result ≡ true → is_committed one.new }
+        ensures number { answered_number one.new ≡ answered_number one.old };
+
     /// Gives a connection its answer, which it tells when it goes on. Its times count from the one at which its turn was taken.
     fn hear(&self, one: Self::Answered) -> Self::Held
+        requires committed { is_committed one }
         ensures number { held_number result ≡ answered_number one };
+
+    /// Has one leave that hasn't heard its answer, which it isn't told.
+    fn leave_untold(&self, one: Self::Answered, door: &mut Self::Door)
+        ensures out { (n : ℕ) → is_out door.new n ≡ (if n == answered_number one then false else is_out door.old n) };
 
     /// Has it leave.
     fn leave(held: Self::Held, door: &mut Self::Door)

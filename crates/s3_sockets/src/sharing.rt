@@ -13,7 +13,7 @@ use s3_config::Config;
 use s3_devices::Recorded;
 use s3_driver::{AnsweredConnection, Driver, Moved, ServedConnection, new_driver};
 use s3_history::Recorder;
-use s3_journal::{Ground, SharedStore, Turns};
+use s3_journal::{Committed, Ground, SharedStore, Turns};
 use s3_log::{Log, MessageLog};
 use s3_records::{CommitError, Records};
 use std::alloc::Global;
@@ -126,7 +126,7 @@ impl<'a, J: Ground, K: Records + Drop, W: Wait> Sharing<'a, J, K, W> {
 
 /// A worker serves its connections so.
 impl<'a, J: Ground, K: Records + Drop, W: Wait + Clock> Service for Sharing<'a, J, K, W> {
-    ghost use Rattle.std.specs.Prelude.{option_map};
+    ghost use Rattle.std.specs.Prelude.{◌≡◌, option_map};
     ghost use Rattle.s3_journal.specs.Roster as rosters;
 
     ghost arrival_number = { λ arrival. arrival.seat.number };
@@ -141,6 +141,8 @@ impl<'a, J: Ground, K: Records + Drop, W: Wait + Clock> Service for Sharing<'a, 
 
     ghost handed = { λ door. door.passed.handed };
 
+    ghost is_committed = { λ one. one.connection.served.seat.committed ≡ one.connection.served.seat.mine };
+
     type Door = Door<J>;
 
     type Arrival = Arrival<J>;
@@ -152,6 +154,8 @@ impl<'a, J: Ground, K: Records + Drop, W: Wait + Clock> Service for Sharing<'a, 
     type Answered = Answered<'a, J, W>;
 
     type Turns = Turns<'a, J, K>;
+
+    type Committed = Committed<J>;
 
     type Runtime = W;
 
@@ -240,12 +244,16 @@ impl<'a, J: Ground, K: Records + Drop, W: Wait + Clock> Service for Sharing<'a, 
         }
     }
 
-    fn commit(turns: Turns<'a, J, K>) -> Result<(), CommitError> {
+    fn commit(turns: Turns<'a, J, K>) -> Result<Committed<J>, CommitError> {
         turns.commit()
     }
 
     fn key(answered: &Answered<'a, J, W>) -> usize {
         answered.key
+    }
+
+    fn may_hear(one: &mut Answered<'a, J, W>, committed: &Committed<J>) -> bool {
+        one.connection.may_hear(committed)
     }
 
     fn hear(&self, one: Answered<'a, J, W>) -> Held<'a, J, W> {
@@ -260,6 +268,16 @@ impl<'a, J: Ground, K: Records + Drop, W: Wait + Clock> Service for Sharing<'a, 
             is_new: false,
             rt,
         }
+    }
+
+    fn leave_untold(&self, one: Answered<'a, J, W>, door: &mut Door<J>) {
+        let Answered {
+            connection,
+            key: _,
+            at,
+            rt: _,
+        } = one;
+        door.leave_untold(self.alloc, connection, at);
     }
 
     fn leave(held: Held<'a, J, W>, door: &mut Door<J>) {
@@ -313,7 +331,7 @@ impl<'a, J: Ground, K: Records + Drop, W: Wait + Clock> Service for Sharing<'a, 
             }
         }
         for one in answered {
-            Self::leave(self.hear(one), door);
+            self.leave_untold(one, door);
         }
     }
 

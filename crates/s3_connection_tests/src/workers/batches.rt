@@ -7,10 +7,12 @@ use crate::workers::stream::{Manner, MemoryStream, PLAIN};
 use crate::workers::turns::{FIRST, SECOND};
 use s3_config::Config;
 use s3_devices::Recorded;
-use s3_driver::{Account, Ending, Nobody, ServedConnection, State, new_driver, turn_away};
+use s3_driver::{
+    Account, AnsweredConnection, Ending, Nobody, ServedConnection, State, new_driver, turn_away,
+};
 use s3_history::Recorder;
-use s3_journal::{Ground, Roster, SharedStore, Start};
-use s3_records::MapRecords;
+use s3_journal::{Committed, Ground, Roster, SharedStore, Start};
+use s3_records::{CommitError, MapRecords};
 use std::alloc::Global;
 use std::marker::Brand;
 use std::mem::drop;
@@ -139,12 +141,8 @@ fn letter_of(state: State) -> u8 {
 // A connection of these tests.
 type Connection<J> = ServedConnection<J, Recorded<MemoryStream<'static>>, Nobody>;
 
-// One that is served, with how it stood in each round.
-#[derive(Drop)]
-struct Traced<J: Ground> {
-    connection: Connection<J>,
-    states: Vec<u8>,
-}
+// The same with the answer to its turn.
+type Answered<J> = AnsweredConnection<J, Recorded<MemoryStream<'static>>, Nobody>;
 
 // One that has a seat of this roster; `None` where there is no memory for it.
 fn connect<J: Ground>(
@@ -152,28 +150,75 @@ fn connect<J: Ground>(
     roster: &mut Roster<J, Account>,
     one: &One,
     now: Instant,
-) -> Option<Traced<J>> {
-    let Ok(driver) = new_driver(alloc) else {
-        return None;
-    };
-    let stream = MemoryStream::new(one.sent.bytes(), Vec::new(alloc), one.manner);
+) -> Option<Connection<J>> {
     let (recorder, moments) = (Recorder::new()?, Recorder::new()?);
-    let seat = roster.seat().ok()?;
-    let device = Recorded::named(stream, recorder, seat.number());
-    Some(Traced {
-        connection: ServedConnection::new(driver, device, seat, moments, Nobody, now),
-        states: Vec::new(alloc),
-    })
+    let driver = new_driver(alloc).ok()?;
+    match roster.seat() {
+        Ok(seat) => {
+            let stream = MemoryStream::new(one.sent.bytes(), Vec::new(alloc), one.manner);
+            let device = Recorded::named(stream, recorder, seat.number());
+            Some(ServedConnection::new(driver, device, seat, moments, Nobody, now))
+        }
+        Err(_) => None,
+    }
 }
 
 // Has it go on as far as it can, and notes how it stands.
-fn go_on<J: Ground>(alloc: Global, config: &Config, traced: &mut Traced<J>, now: Instant)
+fn go_on<J: Ground>(
+    alloc: Global,
+    config: &Config,
+    connection: &mut Connection<J>,
+    states: &mut Vec<u8>,
+    now: Instant,
+)
     requires settings { J.base.settings ≡ config.now }
 {
-    let moved = traced
-        .connection
-        .go_on(alloc, config, &mut [0; 4096], moment(), now);
-    drop(traced.states.push(letter_of(moved.state)));
+    let moved = connection.go_on(alloc, config, &mut [0; 4096], moment(), now);
+    drop(states.push(letter_of(moved.state)));
+}
+
+// Both, where both are there.
+fn both_of<T: Drop>(first: Option<T>, second: Option<T>) -> Option<(T, T)> {
+    match (first, second) {
+        (Some(first), Some(second)) => Some((first, second)),
+        _ => None,
+    }
+}
+
+// One that has heard its answer; `None` where it may not.
+fn heard<J: Ground>(
+    alloc: Global,
+    mut answered: Answered<J>,
+    committed: &Committed<J>,
+    now: Instant,
+) -> Option<Connection<J>> {
+    if answered.may_hear(committed) {
+        Some(answered.hear(alloc, now))
+    } else {
+        drop(answered);
+        None
+    }
+}
+
+// Both, which have heard their answers, where these are committed.
+fn both_heard<J: Ground>(
+    alloc: Global,
+    first: Answered<J>,
+    second: Answered<J>,
+    committed: Result<Committed<J>, CommitError>,
+    now: Instant,
+) -> Option<(Connection<J>, Connection<J>)> {
+    match committed {
+        Ok(committed) => both_of(
+            heard(alloc, first, &committed, now),
+            heard(alloc, second, &committed, now),
+        ),
+        Err(_) => {
+            drop(first);
+            drop(second);
+            None
+        }
+    }
 }
 
 // Takes the turns of both to the shared store in one batch, and gives them their answers; `None` where the batch isn't committed,
@@ -189,49 +234,24 @@ fn take_turns<J: Ground, R: Wait>(
     let mut turns = shared.turns(rt);
     let first = first.submit(&mut turns);
     let second = second.submit(&mut turns);
-    turns.commit().ok()?;
-    Some((first.hear(alloc, now), second.hear(alloc, now)))
+    both_heard(alloc, first, second, turns.commit(), now)
 }
 
-// Has both have a round; `None` where their turns aren't committed.
-fn serve_round<J: Ground, R: Wait>(
-    rt: &R,
-    alloc: Global,
-    config: &Config,
-    shared: &SharedStore<J, MapRecords>,
-    mut first: Traced<J>,
-    mut second: Traced<J>,
-    now: Instant,
-) -> Option<(Traced<J>, Traced<J>)>
-    requires settings { J.base.settings ≡ config.now }
-{
-    go_on(alloc, config, &mut first, now);
-    go_on(alloc, config, &mut second, now);
-    let (one, other) = take_turns(rt, alloc, shared, first.connection, second.connection, now)?;
-    Some((
-        Traced {
-            connection: one,
-            states: first.states,
-        },
-        Traced {
-            connection: other,
-            states: second.states,
-        },
-    ))
-}
-
-// Whether a connection was served as is wanted, which leaves the roster.
-fn leaves_as<J: Ground>(traced: Traced<J>, roster: &mut Roster<J, Account>, one: &One) -> bool {
-    let Traced { connection, states } = traced;
+// Whether a connection was served as is wanted.
+fn is_as<J: Ground>(connection: &Connection<J>, states: &[u8], one: &One) -> bool {
     let stream = connection.stream().stream();
-    let is_right = stream.output.as_slice() == one.written.as_bytes()
-        && stream.is_shut == one.is_shut
-        && states.as_slice() == one.states;
-    drop(states);
+    (stream.output.as_slice() == one.written.as_bytes())
+        & (stream.is_shut == one.is_shut)
+        & (states == one.states)
+}
+
+// It leaves the roster.
+fn leave<J: Ground>(connection: Connection<J>, roster: &mut Roster<J, Account>) {
     if roster.has(connection.number()) {
         drop(connection.leave(roster));
+    } else {
+        drop(connection);
     }
-    is_right
 }
 
 // Whether nothing is written to one that comes and is turned away, which leaves the roster.
@@ -250,10 +270,39 @@ fn is_turned_away<J: Ground>(alloc: Global, roster: &mut Roster<J, Account>) -> 
         seat,
         roster,
     );
-    device.stream().output.is_empty() && !roster.has(number)
+    device.stream().output.is_empty() & !roster.has(number)
 }
 
-// Whether both are served as is wanted.
+// Whether both are served as is wanted, which then leave the roster.
+fn leave_as<J: Ground, R: Wait>(
+    rt: &R,
+    alloc: Global,
+    config: &Config,
+    shared: &SharedStore<J, MapRecords>,
+    roster: &mut Roster<J, Account>,
+    mut first: Connection<J>,
+    mut second: Connection<J>,
+    both: &[One; 2],
+    now: Instant,
+) -> bool
+    requires settings { J.base.settings ≡ config.now }
+{
+    let (mut one, mut other) = (Vec::new(alloc), Vec::new(alloc));
+    for _ in 0..ROUNDS {
+        go_on(alloc, config, &mut first, &mut one, now);
+        go_on(alloc, config, &mut second, &mut other, now);
+        let Some(served) = take_turns(rt, alloc, shared, first, second, now) else {
+            return false;
+        };
+        (first, second) = served;
+    }
+    let are_right = is_as(&first, &one, &both[0]) & is_as(&second, &other, &both[1]);
+    leave(first, roster);
+    leave(second, roster);
+    are_right
+}
+
+// The same of two that come, and whether one that is turned away then is told nothing.
 fn are_served<J: Ground, R: Wait>(
     rt: &R,
     alloc: Global,
@@ -265,20 +314,15 @@ fn are_served<J: Ground, R: Wait>(
 ) -> bool
     requires settings { J.base.settings ≡ config.now }
 {
-    let Some(mut first) = connect(alloc, roster, &both[0], now) else {
-        return false;
+    let first = connect(alloc, roster, &both[0], now);
+    let second = connect(alloc, roster, &both[1], now);
+    let are_right = match both_of(first, second) {
+        Some((first, second)) => {
+            leave_as(rt, alloc, config, shared, roster, first, second, both, now)
+        }
+        None => false,
     };
-    let Some(mut second) = connect(alloc, roster, &both[1], now) else {
-        return false;
-    };
-    for _ in 0..ROUNDS {
-        let Some(served) = serve_round(rt, alloc, config, shared, first, second, now) else {
-            return false;
-        };
-        (first, second) = served;
-    }
-    let is_first_right = leaves_as(first, roster, &both[0]);
-    leaves_as(second, roster, &both[1]) && is_first_right && is_turned_away(alloc, roster)
+    are_right && is_turned_away(alloc, roster)
 }
 
 // How many entries a shared store leaves to whose roster both come, where they are served as is wanted.

@@ -1,6 +1,3 @@
-use Rattle.std.proofs.Common.{subst, sym}
-use Rattle.s3_driver.specs.declared.state.Departure.{Departure}
-use Rattle.s3_driver.specs.Account.{Fits}
 use Rattle.s3_driver.specs.ServedConnection.{Served}
 use Rattle.s3_driver.proofs.ServedConnectionLemmas.{fits_so}
 use Rattle.s3_driver.proofs.served_connection.ServedConnection.leave.Goals as goal
@@ -9,5 +6,4 @@ pub leave-requires-clause-fits : goal.leave-requires-clause-fits
 leave-requires-clause-fits g c =
     let p = c.self.inside.parts in
     let served : Served = record { connection = p.driver.value; traffic = g.S.Device.traffic p.stream; moments = p.moments.entries; seat = p.seat; state = p.waits.state } in
-    subst (λ (d : Departure). Fits g.J.Ground.base.settings (record { traffic = g.S.Device.traffic p.stream; moments = p.moments.entries; departure = d }) p.seat.mine) (sym c.departure.ensures)
-    (fits_so c.connections_have_written.ensures g.J.Ground.base.settings served c.self.invariant)
+    fits_so c.connections_have_written.ensures g.J.Ground.base.settings served c.self.invariant

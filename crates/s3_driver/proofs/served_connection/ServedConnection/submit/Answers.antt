@@ -10,7 +10,7 @@ invariant_of-result g c =
     let base = g.J.Ground.base in
     let ask = c.ask-answered in
     let in_memory = g.R.Records.is_in_memory in
-    hears_so base.settings p.driver.value ask.new.driver (g.S.Device.traffic p.stream) p.moments.entries p.seat ask.new.seat p.waits.state in_memory base
+    hears_so p.driver.value ask.new.driver (g.S.Device.traffic p.stream) p.moments.entries p.seat ask.new.seat p.waits.state in_memory base
     c.args.turns.now ask.new.turns ask.result
     c.self.invariant
     (subst (λ (d : Connected). IfSome ask.result (IsAsked in_memory base d ask.new.driver p.seat ask.new.seat c.args.turns.now ask.new.turns)) c.deref_mut.ensures.value ask.ensures.asked)

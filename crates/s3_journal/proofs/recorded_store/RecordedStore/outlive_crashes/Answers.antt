@@ -1,6 +1,7 @@
 use Rattle.std.proofs.Common.{◌≡◌, Some, subst}
 use Rattle.s3_journal.specs.RecordedStore.{HasEntries, Journal, told_or}
-use Rattle.s3_journal.proofs.CrashLemmas.{entries_known, has_entries}
+use Rattle.s3_journal.specs.Noted.{committed_in, entries_in}
+use Rattle.s3_journal.proofs.CrashLemmas.{has_entries}
 use Rattle.s3_journal.proofs.recorded_store.RecordedStore.outlive_crashes.Goals as goal
 
 pub returns-clause-lasts : goal.returns-clause-lasts
@@ -10,10 +11,10 @@ returns-clause-lasts g c = λ front left.
       origin = inside.recorder.origin;
       rules = inside.rules;
       opening = (told_or inside.opening.entries inside.store).standing;
-      entries = inside.recorder.entries;
+      entries = entries_in inside.recorder.entries;
       store = inside.store.standing;
-      committed = entries_known inside.committed;
+      committed = committed_in inside.recorder.entries;
     } in
     subst (λ (j : Journal). j.committed ≡ Some front → g.R.Records.leaves inside.store.records left → HasEntries j front left) c.self.view_is
-    (λ is leaves. has_entries (g.R.Records.leaves_one_of inside.store.records) was inside.committed front left c.self.invariant.3 is
+    (λ is leaves. has_entries (g.R.Records.leaves_one_of inside.store.records) was front left c.self.invariant.3 is
     (λ known knows. c.outlive_crashes.ensures known left knows leaves))

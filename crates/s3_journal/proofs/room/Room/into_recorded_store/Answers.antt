@@ -1,4 +1,5 @@
 use Rattle.std.proofs.Common.{◌≡◌, length, ap, subst, sym, ◌∙◌}
+use Rattle.s3_journal.specs.Noted.{front_of}
 use Rattle.s3_journal.specs.RecordedStore.{Journal}
 use Rattle.s3_journal.specs.SharedStore.{Continues}
 use Rattle.s3_journal.specs.Roster.{HasGathered}
@@ -17,8 +18,8 @@ returns-clause-closed g c =
     let all : c.gather.new.shares.parts ≡ g.J.Ledger.parts = shares ∙ whole in
     let total = c.audit.ensures.whole all in
     is_closed (g.P.Report.fits g.J.Ground.base) g.J.Ground.base c.gather.new.recorded_store rosters 0 c.gather.new.shares.parts c.gather.new.shares.amount room.calls.total
-    (subst (λ (j : Journal). HasGathered (g.P.Report.fits g.J.Ground.base) j.entries 0 rosters c.gather.new.shares.parts c.gather.new.shares.amount) (sym same) gathered)
-    (subst (Continues g.J.Ground.base) (sym same) c.self.invariant.continues) c.store.ensures.history
+    (subst (λ (j : Journal). HasGathered (g.P.Report.fits g.J.Ground.base) j.entries (front_of j.committed) 0 rosters c.gather.new.shares.parts c.gather.new.shares.amount) (sym same) gathered)
+    (subst (Continues g.J.Ground.base) (sym same) c.self.invariant.continues) c.store.ensures.history c.store.ensures.committed
     (ap (λ (j : Journal). length j.entries) same ∙ count) total
 
 pub returns-clause-back : goal.returns-clause-back

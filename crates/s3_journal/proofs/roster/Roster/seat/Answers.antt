@@ -12,5 +12,5 @@ invariant_of-self-2 g c =
     let last = give.less in
     let same = c.from.ensures in
     let less : old.numbers.next < first_of old.index + 1099511627775 = omega (arith, last, same) in
-    roster_given (g.P.Report.fits g.J.Ground.base) g.J.Ground.base roster old.known.origin old.share.parts old.share.amount c.self.invariant
+    roster_given (g.P.Report.fits g.J.Ground.base) g.J.Ground.base roster old.known.origin old.known.committed old.share.parts old.share.amount c.self.invariant
     c.give.new.self c.split_off-share.new.self.parts c.split_off-share.new.self.amount less give.next give.out give.len split.parts_left split.amount_left

@@ -1,6 +1,5 @@
 use Rattle.std.proofs.Common.{◌≡◌, ℕ, false, cond, eqb, subst}
-use Rattle.s3_history.specs.Log.{Trace}
-use Rattle.s3_journal.specs.Recorded.{Recorded}
+use Rattle.s3_history.specs.Log.{Origin}
 use Rattle.s3_journal.specs.SharedStore.{IsSeat}
 use Rattle.s3_journal.specs.Roster.{Rostered, is_out}
 use Rattle.s3_journal.proofs.RosterLemmas.{roster_withdrawn}
@@ -16,9 +15,9 @@ invariant_of-self g c =
     let numbers = c.take.new.self in
     let out : (n : ℕ) → is_out numbers n ≡ cond (eqb n seat.number) false (is_out old.numbers n) =
     subst (λ (k : ℕ). (n : ℕ) → is_out numbers n ≡ cond (eqb n k) false (is_out old.numbers n)) parts.number c.take.ensures.out in
-    let is_seat : IsSeat g.J.Ground.base seat g.J.Ground.base.origin given.3.parts given.3.amount =
-    subst (λ (t : Trace Recorded). IsSeat g.J.Ground.base seat t.origin given.3.parts given.3.amount) parts.known parts.seat in
-    roster_withdrawn (g.P.Report.fits g.J.Ground.base) g.J.Ground.base roster old.known.origin old.share.parts old.share.amount c.self.invariant
-    numbers seat given.3.parts given.3.amount c.merge.new.self.parts c.merge.new.self.amount c.learn.new.self.entries c.learn.new.self.origin
-    c.take.ensures.next out c.take.ensures.len c.requires.unused is_seat c.learn.ensures.kept c.learn.ensures.origin
+    let is_seat : IsSeat g.J.Ground.base seat g.J.Ground.base.origin given.5 given.3.parts given.3.amount =
+    subst (λ (o : Origin). IsSeat g.J.Ground.base seat o given.5 given.3.parts given.3.amount) parts.origin parts.seat in
+    roster_withdrawn (g.P.Report.fits g.J.Ground.base) g.J.Ground.base roster old.known.origin old.known.committed old.share.parts old.share.amount c.self.invariant
+    numbers seat given.3.parts given.3.amount c.merge.new.self.parts c.merge.new.self.amount c.learn.new.self.entries c.learn.new.self.committed given.5 c.learn.new.self.origin
+    c.take.ensures.next out c.take.ensures.len c.requires.unused is_seat c.learn.ensures.kept c.learn.ensures.committed c.learn.ensures.origin
     c.merge.ensures.parts c.merge.ensures.amount

@@ -13,7 +13,7 @@ invariant_of-self g c =
     let connection = c.args.connection in
     let seat = connection.seat in
     let left = c.leave-stream in
-    let gone : Gone Account = record { number = seat.number; calls = seat.mine; seen = seat.seen; report = account_of connection } in
+    let gone : Gone Account = record { number = seat.number; calls = seat.mine; seen = seat.seen; committed = seat.committed; report = account_of connection } in
     let was : is_out old.roster.numbers seat.number ≡ true =
     ap (λ (n : ℕ). is_out old.roster.numbers n) (sym c.number.ensures) ∙ sym c.has.ensures ∙ c.if-has.true in
     door_left old.handed.entries old.back.entries c.take_back.new.back.entries old.roster left.new.roster old.vacancy gone c.self.invariant was

@@ -14,7 +14,7 @@ invariant_of-self g c =
     let parts = c.into_parts-stream in
     let seat = parts.result.1 in
     let left = c.turn_away-stream in
-    let gone : Gone Account = record { number = seat.number; calls = []; seen = seat.seen; report = turned_away seat.number } in
+    let gone : Gone Account = record { number = seat.number; calls = []; seen = seat.seen; committed = seat.committed; report = turned_away seat.number } in
     let number : c.number.result ≡ seat.number = c.number.ensures ∙ ap (λ (s : Seated). s.number) (sym parts.ensures.seat) in
     let was : is_out old.roster.numbers seat.number ≡ true =
     ap (λ (n : ℕ). is_out old.roster.numbers n) (sym number) ∙ sym c.has.ensures ∙ c.if-has.true in
