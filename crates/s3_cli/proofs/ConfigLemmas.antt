@@ -11,7 +11,7 @@ use Rattle.s3_settings.specs.declared.settings.Setup.{Setup}
 use Rattle.s3_cli.specs.Run.{IsReplayFault}
 
 -- nothing is some
-gives_nothing : (t : Traffic) → GivesSome t t
+pub gives_nothing : (t : Traffic) → GivesSome t t
 gives_nothing t = record { bytes = []; given = ap (λ bytes. record t { received = bytes }) (sym (append-nil t.received)) }
 
 -- the options are right, and there are no settings

@@ -2,7 +2,6 @@
 use Rattle.std.proofs.Common.{◌≡◌, ◌≢◌, ◌∙◌, ◌<◌, ◌+◌, ℕ, zero, suc, false, List, [], ◌∷◌, ◌++◌, length, Option, Some, None, Result, Ok, Err, ap, arith, append_assoc, append-nil, inl, inr, refl, subst, sym}
 use Rattle.std.specs.Prelude.{◌⊎◌, IfSome, OnOk}
 use Rattle.std.specs.List.{slice_get}
-use Rattle.s3_config.specs.Settings.{Settings}
 use Rattle.s3_session.specs.Output.{Over, is_dead, is_waiting}
 use Rattle.s3_session.specs.declared.fault.Fault.{Fault}
 use Rattle.s3_events.specs.declared.event.Event.{Event}
@@ -16,7 +15,7 @@ use Rattle.s3_simulation.specs.StandsAfter.{StandsAfter, WorldsRun}
 use Rattle.s3_simulation.specs.World.{Serving}
 use Rattle.s3_cli.specs.Faults.{faults_from, faults_text, line_of_fault}
 use Rattle.s3_cli.specs.Reading.{IsToldOf, TellsFirst}
-use Rattle.s3_cli.specs.Run.{IsScriptAnsweredWithFaults}
+use Rattle.s3_cli.specs.Run.{IsScriptAnswered, IsScriptAnsweredWithFaults}
 
 -- one line more
 lines_more : (c : ℕ) (told : List (Option Fault)) (fault : Option Fault) → faults_from c (told ++ fault ∷ []) ≡ faults_from c told ++ line_of_fault (c + length told) fault
@@ -97,14 +96,14 @@ told_of world moments happened c told s less some over none = record {
 }
 
 -- in the run that a world has made, its faults are told
-pub faults_told : (world : Serving) (settings : Settings) (script : Script) (text out : List ℕ) → WorldsRun
-    → StandsAfter world (each_moments script.moments.items) script.events.items → world.settings ≡ settings
+pub faults_told : (world : Serving) (script : Script) (text out : List ℕ) → WorldsRun
+    → StandsAfter world (each_moments script.moments.items) script.events.items
     → text ≡ outputs_text (written_by_all world.connections)
     → TellsFirst world (each_moments script.moments.items) script.events.items (length world.connections) text out
-    → IsScriptAnsweredWithFaults settings script out
-faults_told world settings script text out law s same lines t =
+    → IsScriptAnsweredWithFaults world.recorded_store.opening world.settings script out
+faults_told world script text out law s lines t =
     let ran = law world (each_moments script.moments.items) script.events.items s in
-    subst (λ (of : Settings). IsScriptAnsweredWithFaults of script out) same (record {
+    record {
       outs = written_by_all world.connections;
       entries = world.recorded_store.entries;
       runs = ran.0;
@@ -117,4 +116,16 @@ faults_told world settings script text out law s same lines t =
             (ap is_dead (sym (ran.1 c)) ∙ lives) (ap is_waiting (sym (ran.1 c)) ∙ rests);
       };
       printed = t.printed ∙ ap (λ (front : List ℕ). front ++ faults_text t.told) lines;
-    })
+    }
+
+-- so its outputs
+pub outputs_told : (world : Serving) (script : Script) (out : List ℕ) → WorldsRun
+    → StandsAfter world (each_moments script.moments.items) script.events.items
+    → out ≡ outputs_text (written_by_all world.connections)
+    → IsScriptAnswered world.recorded_store.opening world.settings script out
+outputs_told world script out law s lines = record {
+  outs = written_by_all world.connections;
+  entries = world.recorded_store.entries;
+  runs = (law world (each_moments script.moments.items) script.events.items s).0;
+  printed = lines;
+}

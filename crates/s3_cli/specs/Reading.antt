@@ -1,11 +1,17 @@
 -- How the input of a replay is read and answered. Only clauses of private functions cite what is here: nobody has to believe it.
-use Rattle.std.specs.Prelude.{◌≡◌, ◌≢◌, ℕ, ⊤, true, false, List, ◌++◌, length, Option, Some, None}
+use Rattle.std.specs.Prelude.{◌≡◌, ◌≢◌, ◌⊎◌, ℕ, ⊤, true, false, List, ◌++◌, length, Option, Some, None}
+use Rattle.std.specs.Borrow.{Bor}
 use Rattle.std.specs.List.{slice_get}
 use Rattle.s3_config.specs.Settings.{Settings}
 use Rattle.s3_settings.specs.declared.fault.Fault.{Fault}
-use Rattle.s3_settings.specs.declared.fault.Fault.TheVariants.{BadEventLine, InputFailed, OutOfMemory}
+use Rattle.s3_settings.specs.declared.fault.Fault.TheVariants.{BadEventLine, CannotUse, InputFailed, OutOfMemory}
 use Rattle.s3_settings.specs.declared.mode.ReplayMode.{ReplayMode}
-use Rattle.s3_settings.specs.Devices.{FailsToGive, GivesSome}
+use Rattle.s3_settings.specs.Devices.{FailsToGive, GivesAll, GivesSome}
+use Rattle.s3_storage.specs.declared.storage_fault.StorageFault.{StorageFault}
+use Rattle.s3_storage.specs.declared.storage_fault.StorageFault.TheVariants as storage
+use Rattle.s3_records.specs.declared.commit.CommitError.{CommitError}
+use Rattle.s3_records.specs.declared.commit.CommitError.TheVariants as commits
+use Rattle.s3_store.specs.Steps.{Standing}
 use Rattle.s3_devices.specs.Device.{Traffic}
 use Rattle.s3_text.specs.Lines.{lines_of, IsFirstBadLine}
 use Rattle.s3_session.specs.Output.{Over, is_dead, is_waiting}
@@ -37,7 +43,36 @@ IsReadingFault old new _ = ⊥
 -- a replay was fed with these bytes
 abbrev pub IsFed : Replaying → Replaying → List ℕ → Type 0
 IsFed old new given =
-    (settings : Settings) (moment : ℕ) (bytes : List ℕ) → HasTaken old settings moment bytes → HasTaken new settings moment (bytes ++ given)
+    (base : Standing) (settings : Settings) (moment : ℕ) (bytes : List ℕ)
+    → HasTaken old base settings moment bytes → HasTaken new base settings moment (bytes ++ given)
+
+-- what is told where a folder doesn't commit
+abbrev pub commit_fault : Bor (List ℕ) → CommitError → Fault
+commit_fault path commits.NoMemory = CannotUse path storage.NoRoom
+commit_fault path commits.Failed = CannotUse path storage.Failed
+
+-- why the records of a folder can't be opened
+abbrev pub IsOpeningFault : Bor (List ℕ) → Fault → Type 0
+IsOpeningFault path fault = ((why : StorageFault) × (fault ≡ CannotUse path why)) ⊎ (fault ≡ OutOfMemory)
+
+-- why what was read has no answer that a folder keeps
+abbrev pub IsKeepingFault : Bor (List ℕ) → Fault → Type 0
+IsKeepingFault path fault = ((error : CommitError) × (fault ≡ commit_fault path error)) ⊎ (fault ≡ OutOfMemory)
+
+-- why all that a device gives has none, over a store that was opened in the folder: the device gave it, and the folder didn't commit; or
+-- such a fault of the input
+abbrev pub IsOpenedFault : Bor (List ℕ) → (Traffic → Traffic → Fault → Type 0) → Traffic → Traffic → Fault → Type 0
+IsOpenedFault path IsInputFault old new fault =
+    ((error : CommitError) × (fault ≡ commit_fault path error) × GivesAll (λ bytes. ⊤) old new) ⊎ IsInputFault old new fault
+
+-- why it has none, and what the device gave by then
+abbrev pub IsKeptFault : Bor (List ℕ) → ReplayMode → Traffic → Traffic → Fault → Type 0
+IsKeptFault path mode old new fault = ((new ≡ old) × IsOpeningFault path fault) ⊎ IsOpenedFault path (IsAnswerFault mode) old new fault
+
+-- the same, in memory or in a folder
+abbrev pub IsOverFault : Option (Bor (List ℕ)) → ReplayMode → Traffic → Traffic → Fault → Type 0
+IsOverFault None mode old new fault = IsAnswerFault mode old new fault
+IsOverFault (Some path) mode old new fault = IsKeptFault path mode old new fault
 
 -- why event lines have none
 abbrev pub IsLinesFault : List ℕ → Fault → Type 0

@@ -1,5 +1,6 @@
 -- What a run of `s3d` does, over the traffic of its device, whose two sides are the input and the output.
-use Rattle.std.specs.Prelude.{◌≡◌, ◌⊎◌, IsTrue, ℕ, Bool, true, false, ◌&&◌, List, ◌++◌, Option, Some, is_some, option_map}
+use Rattle.std.specs.Prelude.{◌≡◌, ◌⊎◌, ⊤, IsTrue, ℕ, Bool, true, false, not, ◌&&◌, List, ◌++◌, Option, Some, None, is_some, option_map}
+use Rattle.std.specs.Borrow.{Bor}
 use Rattle.s3_config.specs.Settings.{Settings}
 use Rattle.s3_settings.specs.declared.fault.Fault.{Fault}
 use Rattle.s3_settings.specs.declared.fault.Fault.TheVariants.{CannotRead, CannotWrite, BadKeysLine, BadEventLine, BadSetting, CannotListen, CannotUse, InputFailed, OutputFailed, OutOfMemory}
@@ -11,6 +12,12 @@ use Rattle.s3_devices.specs.Device.{Traffic}
 use Rattle.s3_settings.specs.Devices.{FailsToGive, GivesAll, GivesSome, IsTold, Takes, TakesBeginning}
 use Rattle.s3_settings.specs.Fault.{line_of}
 use Rattle.s3_settings.specs.Settings.{replay_mode, are_options, IsSetupOf, IsConfigured, HasSettings, HasConfigFault}
+use Rattle.s3_storage.specs.declared.storage_fault.StorageFault.{StorageFault}
+use Rattle.s3_storage.specs.declared.storage_fault.StorageFault.TheVariants as storage
+use Rattle.s3_records.specs.Catalogue.{opening}
+use Rattle.s3_store.specs.Steps.{Standing, opened}
+use Rattle.s3_keepers.specs.Begun.{HasBuckets}
+use Rattle.s3_machine.specs.Bases.{IsSoundBase}
 use Rattle.s3_session.specs.Replay.{Replays}
 use Rattle.s3_session.specs.declared.fault.Fault.{Fault as FirstFault}
 use Rattle.s3_text.specs.Lines.{lines_of, IsFirstBadLine}
@@ -20,7 +27,8 @@ use Rattle.s3_events.specs.Printing.{outputs_text}
 use Rattle.s3_events.specs.Script.{IsScriptOf}
 use Rattle.s3_journal.specs.Recorded.{Recorded}
 use Rattle.s3_simulation.specs.Faults.{AreTold}
-use Rattle.s3_simulation.specs.Run.{Runs, each_moments}
+use Rattle.s3_simulation.specs.Replaying.{ReplaysFrom}
+use Rattle.s3_simulation.specs.Run.{RunsFrom, each_moments}
 use Rattle.s3_command_line.specs.declared.task.Task.{Task}
 use Rattle.s3_command_line.specs.declared.task.Task.TheVariants.{Replay, Sign}
 use Rattle.s3_cli.specs.Faults.{faults_text}
@@ -31,37 +39,54 @@ use Rattle.s3_command_line.specs.Words.{IsReadFrom}
 abbrev pub are_replay_options : ReplayOptions → Bool
 are_replay_options o = is_some (replay_mode o) && are_options o.common
 
--- the text is what a script is answered: the lines of what its connections wrote in a run of its events
-pub record IsScriptAnswered (settings : Settings) (script : Script) (out : List ℕ) : Type 0 where
+-- the text is what a script is answered over a store that stood so: the lines of what its connections wrote in a run of its events
+pub record IsScriptAnswered (base : Standing) (settings : Settings) (script : Script) (out : List ℕ) : Type 0 where
   pub outs : List (List ℕ)
   pub entries : List Recorded
-  pub runs : Runs settings (each_moments script.moments.items) script.events.items outs entries
+  pub runs : RunsFrom base settings (each_moments script.moments.items) script.events.items outs entries
   pub printed : out ≡ outputs_text outs
 
 -- the same with faults: behind those lines stand those of the first faults that are told of the connections of the run
-pub record IsScriptAnsweredWithFaults (settings : Settings) (script : Script) (out : List ℕ) : Type 0 where
+pub record IsScriptAnsweredWithFaults (base : Standing) (settings : Settings) (script : Script) (out : List ℕ) : Type 0 where
   pub outs : List (List ℕ)
   pub entries : List Recorded
-  pub runs : Runs settings (each_moments script.moments.items) script.events.items outs entries
+  pub runs : RunsFrom base settings (each_moments script.moments.items) script.events.items outs entries
   pub told : List (Option FirstFault)
-  pub faults : AreTold settings (each_moments script.moments.items) script.events.items outs entries runs told
+  pub faults : AreTold base settings (each_moments script.moments.items) script.events.items outs entries runs told
   pub printed : out ≡ outputs_text outs ++ faults_text told
 
 -- one of them, as faults are wanted or not
-abbrev pub IsScriptAnsweredAs : Bool → Settings → Script → List ℕ → Type 0
-IsScriptAnsweredAs false settings script out = IsScriptAnswered settings script out
-IsScriptAnsweredAs true settings script out = IsScriptAnsweredWithFaults settings script out
+abbrev pub IsScriptAnsweredAs : Bool → Standing → Settings → Script → List ℕ → Type 0
+IsScriptAnsweredAs false base settings script out = IsScriptAnswered base settings script out
+IsScriptAnsweredAs true base settings script out = IsScriptAnsweredWithFaults base settings script out
 
 -- the bytes are event lines, and the text is what the script is answered that they make
-pub record IsEventsAnswered (faults : Bool) (settings : Settings) (bytes out : List ℕ) : Type 0 where
+pub record IsEventsAnswered (faults : Bool) (base : Standing) (settings : Settings) (bytes out : List ℕ) : Type 0 where
   pub script : Script
   pub spells : IsScriptOf (lines_of bytes) script
-  pub answered : IsScriptAnsweredAs faults settings script out
+  pub answered : IsScriptAnsweredAs faults base settings script out
 
--- the text is what bytes are answered: as those of one connection at a moment, or as event lines
+-- the text is what bytes are answered over a store with the opening buckets, and nothing else: as those of one connection at a
+-- moment, or as event lines
 abbrev pub IsAnswered : Settings → ReplayMode → List ℕ → List ℕ → Type 0
 IsAnswered settings (AtMoment moment) bytes out = Replays settings moment bytes out
-IsAnswered settings (Events faults) bytes out = IsEventsAnswered faults settings bytes out
+IsAnswered settings (Events faults) bytes out = IsEventsAnswered faults (opened (opening settings.buckets)) settings bytes out
+
+-- the same over a store that stood so
+abbrev pub IsAnsweredFrom : Standing → Settings → ReplayMode → List ℕ → List ℕ → Type 0
+IsAnsweredFrom base settings (AtMoment moment) bytes out = ReplaysFrom base settings moment bytes out
+IsAnsweredFrom base settings (Events faults) bytes out = IsEventsAnswered faults base settings bytes out
+
+-- a store that a keeper opened in a folder: the first buckets are there, and it is a sound base for entries from its next one on, so
+-- that all that is known of histories from one holds of its own
+abbrev pub IsFound : Settings → Standing → Type 0
+IsFound settings base = HasBuckets settings.buckets base.state × IsSoundBase base.state base.number
+
+-- the text is what bytes are answered, in memory or over what was found in a folder
+abbrev pub IsAnsweredOver : Option (Bor (List ℕ)) → Settings → ReplayMode → List ℕ → List ℕ → Type 0
+IsAnsweredOver None settings mode bytes out = IsAnswered settings mode bytes out
+IsAnsweredOver (Some path) settings mode bytes out =
+    (base : Standing) × IsFound settings base × IsAnsweredFrom base settings mode bytes out
 
 -- the input is event lines
 abbrev pub reads_events : ReplayMode → Bool
@@ -77,7 +102,7 @@ pub record IsReplayed (known : List ℕ → Option (List ℕ)) (old new : Traffi
   pub chosen : replay_mode options ≡ Some mode
   pub asked : IsSetupOf options.common setup
   pub configured : IsConfigured (known setup.keys.now) setup settings
-  pub answered : GivesAll (λ bytes. IsAnswered settings mode bytes out) old new
+  pub answered : GivesAll (λ bytes. IsAnsweredOver options.folder settings mode bytes out) old new
 
 -- the options say how the input is read, and there are no settings for this reason
 abbrev pub HasModeAndConfigFault : (List ℕ → Option (List ℕ)) → ReplayOptions → Fault → Type 0
@@ -87,6 +112,16 @@ HasModeAndConfigFault known options fault =
 -- the device gave bytes to their end, and the first event line of them that is bad has this number
 abbrev pub GivesBadLine : Traffic → Traffic → ℕ → Type 0
 GivesBadLine old new number = GivesAll (λ bytes. IsFirstBadLine AreEventLines (lines_of bytes) number) old new
+
+-- a folder may fail so when what changed there is to be committed, after the input
+abbrev pub is_late : StorageFault → Bool
+is_late storage.NoRoom = true
+is_late storage.Failed = true
+is_late _ = false
+
+-- nothing was read of the device yet; or it gave all, and the folder failed as it does late
+abbrev pub IsEarlyOrLate : Traffic → Traffic → StorageFault → Type 0
+IsEarlyOrLate old new why = (new ≡ old) ⊎ ((is_late why ≡ true) × GivesAll (λ bytes. ⊤) old new)
 
 -- why a replay has no such text, and what the device gave by then; each fault only where none that comes before it is
 -- there. Memory runs out only where the options are of their forms.
@@ -99,7 +134,9 @@ IsReplayFault known old new options (BadKeysLine number) = (new ≡ old) × HasM
 IsReplayFault known old new options (BadEventLine number) =
     GivesBadLine old new number × (option_map reads_events (replay_mode options) ≡ Some true) × HasSettings known options.common
 IsReplayFault known old new options (CannotListen address) = ⊥
-IsReplayFault known old new options (CannotUse path why) = ⊥
+IsReplayFault known old new options (CannotUse path why) =
+    IsEarlyOrLate old new why × (option_map (λ text. text.now) options.folder ≡ Some path.now) × (is_some (replay_mode options) ≡ true)
+    × HasSettings known options.common
 IsReplayFault known old new options InputFailed =
     FailsToGive old new × (is_some (replay_mode options) ≡ true) × HasSettings known options.common
 IsReplayFault known old new options OutputFailed = ⊥
@@ -110,6 +147,7 @@ abbrev pub is_before_input : Fault → Bool
 is_before_input (CannotRead path) = true
 is_before_input (BadKeysLine number) = true
 is_before_input BadSetting = true
+is_before_input (CannotUse path why) = not (is_late why)
 is_before_input _ = false
 
 -- a task that reads no input

@@ -1,14 +1,17 @@
 //! The events of several connections, which the input spells line by line, are run, and what the connections wrote is
 //! printed, and their first faults where these are wanted.
 
-ghost use Rattle.std.specs.Prelude.{◌≡◌, ◌<◌, ◌+◌, ◌++◌, ℕ, List, length, take, IfOk, OnOk, IfErr};
+ghost use Rattle.std.specs.Prelude.{◌≡◌, ◌<◌, ◌+◌, ◌++◌, ℕ, Bool, List, length, take, IfOk, OnOk, IfErr};
 ghost use Rattle.s3_text.specs.Lines.{lines_of};
 ghost use Rattle.s3_events.specs.Printing.{outputs_text};
 ghost use Rattle.s3_events.specs.Script.{IsScriptOf};
 ghost use Rattle.s3_events.specs.declared.event.Event.{Event as Happening};
+ghost use Rattle.s3_events.specs.declared.script.Script.{Script as Happenings};
+ghost use Rattle.s3_records.specs.Catalogue.{opening};
+ghost use Rattle.s3_store.specs.Steps.{opened};
 ghost use Rattle.s3_settings.specs.Devices.{GivesAll};
 ghost use Rattle.s3_settings.specs.declared.mode.ReplayMode.TheVariants.{Events as InEvents};
-ghost use Rattle.s3_simulation.specs.Run.{Runs, each_moments};
+ghost use Rattle.s3_simulation.specs.Run.{each_moments};
 ghost use Rattle.s3_simulation.specs.Shown.{written_by_all};
 ghost use Rattle.s3_simulation.specs.StandsAfter.{StandsAfter};
 ghost use Rattle.s3_cli.specs.Run.{IsEventsAnswered, IsScriptAnsweredAs};
@@ -23,6 +26,7 @@ use s3_keepers::Keeper;
 use s3_records::Records;
 use s3_settings::{Fault, read_piece};
 use s3_simulation::{World, run, worlds_run};
+use s3_store::Store;
 use s3_terms::NoMemory;
 use std::alloc::Global;
 use std::sync::Wait;
@@ -44,12 +48,12 @@ pub fn events_answered<'a, R: Wait, Q: Keeper, D: Device>(
     faults: bool,
     device: &mut D,
 ) -> Result<Vec<u8>, Fault<'a>>
-    ensures value { IfOk result (λ text. GivesAll (λ bytes. IsEventsAnswered faults config.now bytes text.items) (D.traffic device.old) (D.traffic device.new)) }
+    ensures value { IfOk result (λ text. GivesAll (λ bytes. IsEventsAnswered faults (opened (opening config.now.buckets)) config.now bytes text.items) (D.traffic device.old) (D.traffic device.new)) }
     ensures refused { IfErr result (IsAnswerFault (InEvents faults) (D.traffic device.old) (D.traffic device.new)) }
 {
-    let mut text = Vec::new(alloc);
-    read_all(rt, &mut text, device)?;
-    lines_answered(alloc, keeper, config, faults, text.as_slice())
+    let script = script_read(rt, alloc, device)?;
+    let text = script_answered(alloc, keeper, config, faults, &script)?;
+    Ok(text)
 }
 
 // Adds all that the device gives to a text, in pieces as they are read.
@@ -72,20 +76,22 @@ fn read_all<'a, R: Wait, D: Device>(
     unreachable!()
 }
 
-// What event lines are answered, with the first faults where these are wanted.
-fn lines_answered<'a, Q: Keeper>(
+/// The script that event lines make, which are all that the device gives. It may wait for the device, and then never return.
+///
+/// # Errors
+///
+/// `InputFailed` where a read failed, `BadEventLine` with the number of its first bad line, and `OutOfMemory`.
+pub fn script_read<'a, R: Wait, D: Device>(
+    rt: &R,
     alloc: Global,
-    keeper: &Q,
-    config: &Config,
-    faults: bool,
-    text: &[u8],
-) -> Result<Vec<u8>, Fault<'a>>
-    ensures value { IfOk result (λ out. IsEventsAnswered faults config.now text.now out.items) }
-    ensures refused { IfErr result (IsLinesFault text.now) }
+    device: &mut D,
+) -> Result<Script, Fault<'a>>
+    ensures value { IfOk result (λ script. GivesAll (λ bytes. IsScriptOf (lines_of bytes) script) (D.traffic device.old) (D.traffic device.new)) }
+    ensures refused { IfErr result (λ fault. (faults : Bool) → IsAnswerFault (InEvents faults) (D.traffic device.old) (D.traffic device.new) fault) }
 {
-    let script = script_of(alloc, text)?;
-    let out = script_answered(alloc, keeper, config, faults, &script)?;
-    Ok(out)
+    let mut text = Vec::new(alloc);
+    read_all(rt, &mut text, device)?;
+    script_of(alloc, text.as_slice())
 }
 
 // The script that event lines make.
@@ -108,13 +114,26 @@ fn script_answered<Q: Keeper>(
     faults: bool,
     script: &Script,
 ) -> Result<Vec<u8>, NoMemory>
-    ensures { IfOk result (λ out. IsScriptAnsweredAs faults config.now script.now out.items) }
+    ensures { IfOk result (λ out. IsScriptAnsweredAs faults (opened (opening config.now.buckets)) config.now script.now out.items) }
+{
+    let world = world_of(alloc, keeper, config, script)?;
+    world_text(alloc, &world, faults)
+}
+
+/// The lines of what the connections of a world wrote, with those of their first faults behind them where these are wanted: what the
+/// script is answered that the world has run.
+pub fn world_text<K: Records + Drop>(
+    alloc: Global,
+    world: &World<'_, K>,
+    faults: bool,
+) -> Result<Vec<u8>, NoMemory>
+    ensures { (script : Happenings) → StandsAfter world.now (each_moments script.moments.items) script.events.items
+        → IfOk result (λ out. IsScriptAnsweredAs faults world.now.recorded_store.opening world.now.settings script out.items) }
 {
     worlds_run();
-    let world = world_of(alloc, keeper, config, script)?;
-    let text = printed(alloc, &world)?;
+    let text = printed(alloc, world)?;
     if faults {
-        with_faults(text, &world)
+        with_faults(text, world)
     } else {
         Ok(text)
     }
@@ -127,12 +146,25 @@ fn world_of<'a, Q: Keeper>(
     config: &'a Config,
     script: &'a Script,
 ) -> Result<World<'a, Q::Kept>, NoMemory>
-    ensures runs { IfOk result (λ world. Runs config.now (each_moments script.now.moments.items) script.now.events.items
-        (written_by_all world.connections) world.recorded_store.entries) }
     ensures stands { IfOk result (λ world. StandsAfter world (each_moments script.now.moments.items) script.now.events.items) }
     ensures settings { IfOk result (λ world. world.settings ≡ config.now) }
+    ensures opens { IfOk result (λ world. world.recorded_store.opening ≡ opened (opening config.now.buckets)) }
 {
     let store = opened_store(alloc, keeper, config)?;
+    world_over(alloc, store, config, script)
+}
+
+/// The world after the events of a script, over this store.
+pub fn world_over<'a, K: Records + Drop>(
+    alloc: Global,
+    store: Store<K>,
+    config: &'a Config,
+    script: &'a Script,
+) -> Result<World<'a, K>, NoMemory>
+    ensures stands { IfOk result (λ world. StandsAfter world (each_moments script.now.moments.items) script.now.events.items) }
+    ensures settings { IfOk result (λ world. world.settings ≡ config.now) }
+    ensures opens { IfOk result (λ world. world.recorded_store.opening ≡ store.standing) }
+{
     let (moments, events) = (script.moments.as_slice(), script.events.as_slice());
     run(alloc, config, store, moments, events)
 }

@@ -4,6 +4,7 @@
 #![tactic(auto)]
 
 mod events;
+mod kept;
 mod mode;
 mod opening;
 mod run;

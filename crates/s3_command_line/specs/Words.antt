@@ -72,10 +72,11 @@ with_records a = with_rule a (option_rule (codes "records"))
 -- `s3d replay`
 abbrev pub replay_app : App
 replay_app =
-    with_rule (with_rule (with_rule (with_records (with_dialect (with_settings (new_app (codes "replay")))))
+    with_rule (with_rule (with_rule (with_rule (with_records (with_dialect (with_settings (new_app (codes "replay")))))
     (option_rule (codes "moment")))
     (flag_rule (codes "events")))
-    (flag_rule (codes "faults"))
+    (flag_rule (codes "faults")))
+    (option_rule (codes "data"))
 
 -- `s3d sign`
 abbrev pub sign_app : App
@@ -162,6 +163,7 @@ pub record HasReplayOptions (rows : List Row) (o : ReplayOptions) : Type 0 where
   pub moment : option_map (λ text. text.now) o.moment ≡ first_of (codes "moment") rows
   pub events : o.events ≡ is_set (first_of (codes "events") rows)
   pub faults : o.faults ≡ is_set (first_of (codes "faults") rows)
+  pub folder : option_map (λ text. text.now) o.folder ≡ first_of (codes "data") rows
 
 -- the options of a server are those of some matches
 pub record HasServeOptions (rows : List Row) (o : ServeOptions) : Type 0 where

@@ -105,8 +105,16 @@ const KEEPING: Argument = Argument {
     kind: Kind::Optional,
 };
 
+// The option of what has a store, and may keep it.
+const LASTING: Argument = Argument {
+    name: "data",
+    value: "FOLDER",
+    help: "Keeps the store in FOLDER, and goes on with one that is there",
+    kind: Kind::Optional,
+};
+
 // The further options of `s3d replay`.
-static REPLAYING: [Argument; 5] = [
+static REPLAYING: [Argument; 6] = [
     SPELLING,
     KEEPING,
     Argument {
@@ -127,6 +135,7 @@ static REPLAYING: [Argument; 5] = [
         help: "Tells of each connection the first message that is refused; only with event lines",
         kind: Kind::Flag,
     },
+    LASTING,
 ];
 
 // The further arguments of `s3d sign`.
@@ -233,12 +242,7 @@ static SERVING: [Argument; 9] = [
         help: "Appends a line for each message to FILE, or to the standard error where FILE is -",
         kind: Kind::Optional,
     },
-    Argument {
-        name: "data",
-        value: "FOLDER",
-        help: "Keeps the store in FOLDER, and goes on with one that is there",
-        kind: Kind::Optional,
-    },
+    LASTING,
 ];
 
 /// The command line of the program.

@@ -97,11 +97,13 @@ fn dialect<'a>(matches: &ArgMatches<'a>) -> &'a str
 fn replay_options<'a>(matches: &ArgMatches<'a>) -> ReplayOptions<'a>
     ensures { HasReplayOptions (rows_of (found_of matches.now)) result }
 {
+    let folder = matches.get_str("data");
     ReplayOptions {
         common: common_options(matches, dialect(matches), matches.get_str("records")),
         moment: matches.get_str("moment"),
         events: is_set(matches.get_str("events")),
         faults: is_set(matches.get_str("faults")),
+        folder,
     }
 }
 

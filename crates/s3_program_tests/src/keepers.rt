@@ -22,7 +22,7 @@ impl Keeper for FullTables {
     }
 }
 
-/// Folders that another process has.
+/// Folders that can't be used for the reason that their path names; those of other paths another process has.
 #[derive(Clone, Copy)]
 pub(crate) struct HeldFolders;
 
@@ -32,9 +32,17 @@ impl FolderKeeper for HeldFolders {
     fn open(
         &self,
         _alloc: Global,
-        _path: &str,
+        path: &str,
         _buckets: &[BucketName],
     ) -> Result<Opened<MapRecords>, StorageFault> {
-        Err(StorageFault::Held)
+        Err(match path {
+            "foreign" => StorageFault::NotAStore,
+            "later" => StorageFault::LaterForm,
+            "damaged" => StorageFault::Damaged,
+            "full" => StorageFault::NoRoom,
+            "broken" => StorageFault::Failed,
+            "memory" => StorageFault::NoMemory,
+            _ => StorageFault::Held,
+        })
     }
 }

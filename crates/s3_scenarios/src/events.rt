@@ -1,7 +1,7 @@
 //! An example of events: what happens to the connections of one store, and what they are answered.
 
 use crate::cut::{Cut, recut};
-use crate::server::{Server, SystemFiles, config, server_of};
+use crate::server::{NoFolders, Server, SystemFiles, config, server_of};
 use crate::trimmed::leave_same;
 use s3_cli::{Ran, run_words};
 use s3_devices::{Recorded, Streams};
@@ -73,6 +73,7 @@ fn answers<W: Wait>(waits: &W, rt: &HostRuntime, words: &[&str], events: &[u8]) 
         words,
         &SystemFiles(rt),
         &MapKeeper,
+        &NoFolders,
         &mut device,
         &mut errors,
     ) {

@@ -1,7 +1,11 @@
 //! The server of an example, which the example's name says.
 
 use s3_config::Config;
+use s3_keepers::{FolderKeeper, Opened};
+use s3_names::BucketName;
+use s3_records::MapRecords;
 use s3_settings::{Files, Options, Setup, configure};
+use s3_storage::StorageFault;
 use std::alloc::Global;
 use std::{fs, io};
 
@@ -15,6 +19,23 @@ pub(crate) struct SystemFiles<'a>(pub(crate) &'a HostRuntime);
 impl Files for SystemFiles<'_> {
     fn read(&self, _alloc: Global, path: &str) -> io::Result<Vec<u8>> {
         fs::read(self.0, path)
+    }
+}
+
+/// No folder keeps a store: examples begin in memory.
+#[derive(Clone, Copy)]
+pub(crate) struct NoFolders;
+
+impl FolderKeeper for NoFolders {
+    type Kept = MapRecords;
+
+    fn open(
+        &self,
+        _alloc: Global,
+        _path: &str,
+        _buckets: &[BucketName],
+    ) -> Result<Opened<MapRecords>, StorageFault> {
+        Err(StorageFault::NotAStore)
     }
 }
 

@@ -1,13 +1,12 @@
 -- What the options of a server ask for, and the settings that it is started with.
-use Rattle.std.specs.Prelude.{◌≡◌, ◌⊎◌, ℕ, Bool, true, false, not, ◌&&◌, nat_le, if◌then◌else◌, List, codes, Option, Some, None, is_some, option_map}
-use Rattle.std.specs.Str.{bytes_eq}
+use Rattle.std.specs.Prelude.{◌≡◌, ◌⊎◌, ℕ, Bool, true, false, ◌&&◌, nat_le, if◌then◌else◌, List, Option, Some, None, is_some, option_map}
 use Rattle.s3_config.specs.Settings.{Settings}
 use Rattle.s3_settings.specs.declared.options.ServeOptions.{ServeOptions}
 use Rattle.s3_settings.specs.declared.fault.Fault.{Fault}
 use Rattle.s3_settings.specs.declared.fault.Fault.TheVariants.{CannotRead, BadKeysLine, BadSetting, OutOfMemory}
 use Rattle.s3_settings.specs.declared.server.ServeMode.{ServeMode}
 use Rattle.s3_settings.specs.declared.settings.Setup.{Setup}
-use Rattle.s3_settings.specs.Settings.{option_number, are_options, IsSetupOf, IsConfigured, HasConfigFault}
+use Rattle.s3_settings.specs.Settings.{option_number, are_options, are_together, IsSetupOf, IsConfigured, HasConfigFault}
 
 -- the most threads that serve connections
 abbrev pub greatest_workers : ℕ
@@ -41,16 +40,6 @@ rounds_asked (Some text) = positive (option_number text)
 abbrev pub rounds_end : Option (List ℕ) → Option (List ℕ) → Bool
 rounds_end None connections = true
 rounds_end (Some rounds) connections = is_some connections
-
--- an option doesn't name maps
-abbrev pub isnt_map : Option (List ℕ) → Bool
-isnt_map None = true
-isnt_map (Some records) = not (bytes_eq records (codes "map"))
-
--- these options may stand together: a folder doesn't keep maps
-abbrev pub are_together : Option (List ℕ) → Option (List ℕ) → Bool
-are_together None records = true
-are_together (Some folder) records = isnt_map records
 
 -- the address is there, and the numbers of threads, of connections at a time, of connections in all and of rounds are
 -- such, and no rounds are asked for without a number of connections, and no folder is named beside maps

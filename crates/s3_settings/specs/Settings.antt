@@ -1,5 +1,5 @@
 -- What the options on the settings say, and the settings that they and the keys file make.
-use Rattle.std.specs.Prelude.{◌≡◌, ⊤, ℕ, Bool, true, false, IsTrue, ◌&&◌, nat_le, if◌then◌else◌, List, codes, Option, Some, None, is_some, IfSome, option_map, option_to_list}
+use Rattle.std.specs.Prelude.{◌≡◌, ⊤, ℕ, Bool, true, false, not, IsTrue, ◌&&◌, nat_le, if◌then◌else◌, List, codes, Option, Some, None, is_some, IfSome, option_map, option_to_list}
 use Rattle.std.specs.Str.{bytes_eq}
 use Rattle.s3_terms.specs.declared.dialect.Dialect.{Dialect}
 use Rattle.s3_terms.specs.declared.dialect.Dialect.TheVariants.{Json, S3}
@@ -75,6 +75,16 @@ pub record IsSetupOf (o : Options) (s : Setup) : Type 0 where
   pub dialect : dialect_named o.dialect.now ≡ Some s.dialect
   pub records : records_asked (option_map (λ text. text.now) o.records) ≡ Some s.records
 
+-- an option doesn't name maps
+abbrev pub isnt_map : Option (List ℕ) → Bool
+isnt_map None = true
+isnt_map (Some records) = not (bytes_eq records (codes "map"))
+
+-- these options may stand together: a folder doesn't keep maps
+abbrev pub are_together : Option (List ℕ) → Option (List ℕ) → Bool
+are_together None records = true
+are_together (Some folder) records = isnt_map records
+
 -- what a replay's own options ask for: one moment for everything, or events, with faults or without; both or neither asks for
 -- nothing, and so do faults without events
 abbrev pub mode_of : Option (List ℕ) → Bool → Bool → Option ReplayMode
@@ -82,9 +92,12 @@ mode_of (Some text) false false = option_map AtMoment (option_moment (Some text)
 mode_of None true faults = Some (Events faults)
 mode_of moment events faults = None
 
--- the same of the options
+-- the same of the options; they ask for nothing where a folder is named beside maps
 abbrev pub replay_mode : ReplayOptions → Option ReplayMode
-replay_mode o = mode_of (option_map (λ text. text.now) o.moment) o.events o.faults
+replay_mode o =
+    if are_together (option_map (λ text. text.now) o.folder) (option_map (λ text. text.now) o.common.records)
+    then mode_of (option_map (λ text. text.now) o.moment) o.events o.faults
+    else None
 
 -- the settings that a setup and some keys make
 abbrev pub settings_of : Setup → List Credentials → Settings

@@ -5,6 +5,7 @@
 mod devices;
 mod fault;
 mod files;
+mod folder;
 mod keys;
 mod mode;
 mod options;

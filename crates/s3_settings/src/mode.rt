@@ -5,6 +5,7 @@ ghost use Rattle.s3_settings.specs.Settings.{replay_mode};
 ghost use Rattle.s3_settings.specs.declared.fault.Fault.TheVariants.{BadSetting};
 
 use crate::fault::Fault;
+use crate::folder::are_together;
 use crate::options::ReplayOptions;
 use crate::settings::option_moment;
 use s3_calendar::Moment;
@@ -20,11 +21,14 @@ pub enum ReplayMode {
 
 impl ReplayMode {
     /// What the options ask for; `BadSetting` where they ask for both a moment and events or for neither, for faults without
-    /// events, or for a moment out of its form.
+    /// events, for a moment out of its form, or for a folder beside maps.
     pub fn read<'a>(options: &ReplayOptions<'a>) -> Result<ReplayMode, Fault<'a>>
         ensures value { IfOk result (λ mode. replay_mode options.now ≡ Some mode) }
         ensures refused { IfErr result (λ fault. (fault ≡ BadSetting) × (replay_mode options.now ≡ None)) }
     {
+        if !are_together(options.folder, options.common.records) {
+            return Err(Fault::BadSetting);
+        }
         if options.moment.is_none() && options.events {
             return Ok(ReplayMode::Events {
                 faults: options.faults,

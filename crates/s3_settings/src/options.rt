@@ -31,6 +31,8 @@ pub struct ReplayOptions<'a> {
     pub events: bool,
     /// Whether the first faults of connections are told.
     pub faults: bool,
+    /// The path of the folder that keeps the store.
+    pub folder: Option<&'a str>,
 }
 
 /// The options of `s3d serve`.

@@ -1,13 +1,14 @@
 //! What a server is started with: how it runs, and its settings.
 
 ghost use Rattle.std.specs.Prelude.{◌≡◌, ◌≤◌, false, Some, None, IfOk, IfErr, option_map};
-ghost use Rattle.s3_settings.specs.Server.{are_serve_options, are_together, isnt_map, connections_asked, rounds_asked, rounds_end, greatest_held, greatest_workers, positive, IsServeModeOf, IsServer, IsServerFault};
+ghost use Rattle.s3_settings.specs.Server.{are_serve_options, connections_asked, rounds_asked, rounds_end, greatest_held, greatest_workers, positive, IsServeModeOf, IsServer, IsServerFault};
 ghost use Rattle.s3_settings.specs.Server as rules;
 ghost use Rattle.s3_settings.specs.Settings.{option_number, records_asked};
 ghost use Rattle.s3_settings.specs.declared.fault.Fault.TheVariants.{BadSetting};
 
 use crate::fault::Fault;
 use crate::files::Files;
+use crate::folder::are_together;
 use crate::options::ServeOptions;
 use crate::records_kind::RecordsKind;
 use crate::settings::{Setup, configure, option_number};
@@ -86,26 +87,6 @@ fn rounds_end(rounds: Option<&str>, connections: Option<&str>) -> bool
 {
     match rounds {
         Some(_) => connections.is_some(),
-        None => true,
-    }
-}
-
-// Whether these options may stand together: a folder doesn't keep maps.
-fn are_together(folder: Option<&str>, records: Option<&str>) -> bool
-    ensures { result ≡ are_together (option_map (λ text. text.now) folder.entry) (option_map (λ text. text.now) records.entry) }
-{
-    match folder {
-        Some(_) => isnt_map(records),
-        None => true,
-    }
-}
-
-// Whether an option doesn't name maps.
-fn isnt_map(records: Option<&str>) -> bool
-    ensures { result ≡ isnt_map (option_map (λ text. text.now) records.entry) }
-{
-    match records {
-        Some(text) => text != "map",
         None => true,
     }
 }

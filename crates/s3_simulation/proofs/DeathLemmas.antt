@@ -4,7 +4,7 @@ use Rattle.std.specs.List.{flat_map}
 use Rattle.s3_config.specs.Settings.{Settings}
 use Rattle.s3_machine.specs.declared.turn.Turn.{Turn}
 use Rattle.s3_replies.specs.Replies.{internal_error}
-use Rattle.s3_session.specs.Output.{Past, Standing, Writes, Behind, Serves, IsDead, is_dead, written_for}
+use Rattle.s3_session.specs.Output.{Past, Standing, Writes, Behind, is_dead, written_for}
 use Rattle.s3_session.specs.Output as standings
 use Rattle.s3_simulation.specs.Run.{output_of}
 use Rattle.s3_simulation.specs.Alike.{DeathsShow}

@@ -1,11 +1,9 @@
 -- How a world begins, and that what it comes to is a run.
-use Rattle.std.proofs.Common.{◌≡◌, ◌≢◌, ◌<◌, ◌≤◌, ℕ, zero, suc, Option, Some, None, List, [], ◌∷◌, length, get_or, refl, sym, ap, subst, ◌∙◌, arith}
+use Rattle.std.proofs.Common.{◌≡◌, ◌≢◌, ◌<◌, ◌≤◌, ℕ, zero, suc, Option, Some, None, List, [], ◌∷◌, length, get_or, refl, sym, ap, subst, ◌∙◌, arith, add-zero}
 use Rattle.std.specs.Global.{Vec}
 use Rattle.std.specs.List.{slice_get}
 use Rattle.std.proofs.lemmas.List.{length-map}
 use Rattle.s3_config.specs.Settings.{Settings}
-use Rattle.s3_records.specs.Catalogue.{opening}
-use Rattle.s3_store.specs.Steps.{opened}
 use Rattle.s3_store.specs.Steps as stores
 use Rattle.s3_machine.specs.History.{Entry, Legal}
 use Rattle.s3_machine.specs.declared.turn.Turn.{Turn}
@@ -29,16 +27,16 @@ use Rattle.s3_simulation.proofs.WorldLemmas.{same_some, there}
 -- connections of which nothing came
 pub begins : (settings : Settings) (connections : List Playing) (recorded_store : Journal) (given : List (Vec ℕ))
     → AreFresh connections (each_moments given) (length given)
-    → recorded_store ≡ record { origin = recorded_store.origin; rules = rules_of settings; opening = opened (opening settings.buckets); entries = []; store = opened (opening settings.buckets); committed = None }
+    → (store : stores.Standing)
+    → recorded_store ≡ record { origin = recorded_store.origin; rules = rules_of settings; opening = store; entries = []; store = store; committed = Some [] }
     → StandsAfter (record { settings = settings; connections = connections; recorded_store = recorded_store }) (each_moments given) []
-begins settings connections recorded_store given fresh is =
+begins settings connections recorded_store given fresh store is =
     subst (λ (j : Journal). StandsAfter (record { settings = settings; connections = connections; recorded_store = j }) (each_moments given) []) (sym is)
     (record {
       each = fresh.count ∙ sym (length-map given (λ (v : Vec ℕ). v.items));
       plays = λ c b at. fresh.fresh c b at settings;
       rules = refl;
-      opens = refl;
-      keeps = record { legal = tt; leaves = refl; counts = refl };
+      keeps = record { legal = tt; leaves = refl; counts = sym (add-zero store.number) };
       taken = refl;
     })
 
@@ -75,8 +73,7 @@ worlds_run write world moments happened s =
       record {
         standing = λ c. standing_at world.connections c;
         waiting = λ c. waiting_in write settings (moments_of c moments) (received c happened) (entries_of_seat c world.recorded_store.entries) (slice_get world.connections c) (s.plays c);
-        legal = subst (λ (r : Rules). Legal r (opening settings.buckets) 0 (history_of world.recorded_store.entries)) s.rules
-            (subst (λ (t : stores.Standing). Legal world.recorded_store.rules t.state t.number (history_of world.recorded_store.entries)) s.opens s.keeps.legal);
+        legal = subst (λ (r : Rules). Legal r world.recorded_store.opening.state world.recorded_store.opening.number (history_of world.recorded_store.entries)) s.rules s.keeps.legal;
         taken = s.taken;
         outputs = λ c less.
             (let count : c < length world.connections = subst (λ (n : ℕ). c < n) (sym s.each) less in

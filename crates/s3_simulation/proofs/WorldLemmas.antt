@@ -169,7 +169,6 @@ module _ (one : OneTimedOutput) (write : ConnectionsWrite) (settings : Settings)
               (s.plays k d (sym (has.others k differ) ∙ is)))
         ];
     rules = has.rules ∙ s.rules;
-    opens = has.opens ∙ s.opens;
     keeps = keeps;
     taken = subst (λ (turns : List TurnAt). AreTaken settings moments (is_lost_in new) [] turns after.entries) (sym (turns_more happened e))
         (subst (λ (es : List Recorded). AreTaken settings moments (is_lost_in new) [] (turns_given happened ++ turn_given happened e) es) (sym m.added)

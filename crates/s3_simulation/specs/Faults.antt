@@ -3,6 +3,7 @@ use Rattle.std.specs.Prelude.{◌≡◌, ◌≢◌, ℕ, false, List, length, Op
 use Rattle.std.specs.List.{slice_get}
 use Rattle.s3_config.specs.Settings.{Settings}
 use Rattle.s3_terms.specs.declared.code.Code.{Code}
+use Rattle.s3_store.specs.Steps.{Standing as Base}
 use Rattle.s3_machine.specs.History.{Entry}
 use Rattle.s3_journal.specs.Recorded.{Recorded}
 use Rattle.s3_session.specs.Fault.{IsFault}
@@ -13,7 +14,7 @@ use Rattle.s3_connection.specs.Output.{Input}
 use Rattle.s3_simulation.specs.Events.{received}
 use Rattle.s3_simulation.specs.Moments.{handed}
 use Rattle.s3_simulation.specs.Played.{Playing, Plays, standing_of}
-use Rattle.s3_simulation.specs.Run.{Runs, moments_of}
+use Rattle.s3_simulation.specs.Run.{RunsFrom, moments_of}
 
 -- of a connection that received this, whose messages have the moments of a list, this message is the first that is refused, and this
 -- is the code
@@ -27,8 +28,8 @@ HasNoFaultOf settings moments input = (number : ℕ) (code : Code) → ¬ (Fault
 -- The first faults that are told of the connections of a run, in the order of their numbers: each that is told is one, of a connection
 -- that is over, so that memory didn't run out in it; and a connection of which none is told has none, unless memory ran out in it, or a
 -- command of it waits, behind which messages may stand.
-pub record AreTold (settings : Settings) (moments : List (List ℕ)) (happened : List Event) (outs : List (List ℕ)) (entries : List Recorded)
-    (run : Runs settings moments happened outs entries) (told : List (Option Fault)) : Type 0 where
+pub record AreTold (base : Base) (settings : Settings) (moments : List (List ℕ)) (happened : List Event) (outs : List (List ℕ)) (entries : List Recorded)
+    (run : RunsFrom base settings moments happened outs entries) (told : List (Option Fault)) : Type 0 where
   pub each : length told ≡ length moments
   pub some : (c : ℕ) (fault : Fault) → slice_get told c ≡ Some (Some fault)
       → FaultOf settings (moments_of c moments) (received c happened) fault.message fault.code

@@ -4,6 +4,8 @@ use Rattle.std.specs.Prelude.{◌≡◌, ◌⊎◌, ◌<◌, ℕ, Bool, true, Li
 use Rattle.std.specs.Global.{Vec}
 use Rattle.s3_config.specs.Settings.{Settings}
 use Rattle.s3_records.specs.Catalogue.{opening}
+use Rattle.s3_store.specs.Steps.{opened}
+use Rattle.s3_store.specs.Steps.{Standing as Base}
 use Rattle.s3_machine.specs.History.{Legal}
 use Rattle.s3_machine.specs.declared.turn.Turn.{Turn}
 use Rattle.s3_machine.specs.Rules.{rules_of}
@@ -54,14 +56,18 @@ module _ (settings : Settings) (moments : List (List ℕ)) where
         (HasNoEntry done at later × AreTaken done turns later)
         ⊎ ((r : Recorded) × (rest : List Recorded) × (later ≡ r ∷ rest) × HasEntry done at r × AreTaken (done ++ r ∷ []) turns rest)
 
--- A run: the entries are a legal history of the store from its opening state; they are those of the turns at which a
+-- A run over a store that stood so: the entries are a legal history from there; they are those of the turns at which a
 -- command waited, in the order of the turns; and each connection wrote the output of what it received, its commands
 -- answered as its entries say.
-pub record Runs (settings : Settings) (moments : List (List ℕ)) (happened : List Event) (outs : List (List ℕ)) (entries : List Recorded) : Type 0 where
+pub record RunsFrom (base : Base) (settings : Settings) (moments : List (List ℕ)) (happened : List Event) (outs : List (List ℕ)) (entries : List Recorded) : Type 0 where
   pub standing : ℕ → Standing
   pub waiting : ℕ → List Turn
-  pub legal : Legal (rules_of settings) (opening settings.buckets) 0 (history_of entries)
+  pub legal : Legal (rules_of settings) base.state base.number (history_of entries)
   pub taken : AreTaken settings moments (λ c. is_dead (standing c)) [] (turns_given happened) entries
   pub outputs : (c : ℕ) → c < length moments
       → TimedOutputs (standing c) settings (moments_of c moments) (received c happened) (entries_of_seat c entries) (waiting c) (output_of c outs)
   pub each : length outs ≡ length moments
+
+-- A run: one over a store with the opening buckets, and nothing else.
+abbrev pub Runs : Settings → List (List ℕ) → List Event → List (List ℕ) → List Recorded → Type 0
+Runs settings moments happened outs entries = RunsFrom (opened (opening settings.buckets)) settings moments happened outs entries

@@ -5,12 +5,10 @@
 use Rattle.std.specs.Prelude.{◌≡◌, ◌≢◌, ◌⊎◌, ℕ, Bool, true, List, [], ◌∷◌, ◌++◌, length, Option, Some, None}
 use Rattle.std.specs.List.{slice_get}
 use Rattle.s3_config.specs.Settings.{Settings}
-use Rattle.s3_records.specs.Catalogue.{opening}
 use Rattle.s3_machine.specs.History.{Entry}
 use Rattle.s3_machine.specs.declared.command.Answer.{Answer}
 use Rattle.s3_machine.specs.declared.turn.Turn.{Turn}
 use Rattle.s3_machine.specs.Rules.{rules_of}
-use Rattle.s3_store.specs.Steps.{opened}
 use Rattle.s3_session.specs.Output.{is_dead}
 use Rattle.s3_journal.specs.RecordedStore.{Journal, KeepsHistory}
 use Rattle.s3_journal.specs.Recorded.{Recorded, entries_of_seat, history_of, recorded}
@@ -22,7 +20,7 @@ use Rattle.s3_connection.specs.Connection.{nothing_received}
 use Rattle.s3_connection.specs.Output.{Input}
 use Rattle.s3_simulation.specs.Events.{received, turns_given}
 use Rattle.s3_simulation.specs.Played.{Playing, Plays, standing_of, turn_of}
-use Rattle.s3_simulation.specs.Run.{AreTaken, Runs, moments_of}
+use Rattle.s3_simulation.specs.Run.{AreTaken, RunsFrom, moments_of}
 use Rattle.s3_simulation.specs.Shown.{standing_at, written_by_all}
 use Rattle.s3_simulation.specs.World.{Serving, given_by}
 
@@ -36,7 +34,6 @@ pub record StandsAfter (world : Serving) (moments : List (List ℕ)) (happened :
   pub plays : (c : ℕ) (b : Playing) → slice_get world.connections c ≡ Some b
       → Plays b world.settings (moments_of c moments) (received c happened) (entries_of_seat c world.recorded_store.entries)
   pub rules : world.recorded_store.rules ≡ rules_of world.settings
-  pub opens : world.recorded_store.opening ≡ opened (opening world.settings.buckets)
   pub keeps : KeepsHistory world.recorded_store
   pub taken : AreTaken world.settings moments (is_lost_in world.connections) [] (turns_given happened) world.recorded_store.entries
 
@@ -85,11 +82,11 @@ pub record HasHappened (settings : Settings) (e : Event) (old new : List Playing
   pub rules : after.rules ≡ before.rules
   pub opens : after.opening ≡ before.opening
 
--- a world that stands after some events has made a run of them, in which its connections stand as they do, and whose outputs are what
--- they wrote
+-- a world that stands after some events has made a run of them over the store with which it began, in which its connections stand as
+-- they do, and whose outputs are what they wrote
 abbrev pub WorldsRun : Type 0
 WorldsRun =
     (world : Serving) (moments : List (List ℕ)) (happened : List Event)
     → StandsAfter world moments happened
-    → (run : Runs world.settings moments happened (written_by_all world.connections) world.recorded_store.entries)
+    → (run : RunsFrom world.recorded_store.opening world.settings moments happened (written_by_all world.connections) world.recorded_store.entries)
     × ((c : ℕ) → run.standing c ≡ standing_at world.connections c)

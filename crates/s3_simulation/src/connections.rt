@@ -84,6 +84,7 @@ pub(crate) fn meet_one<R: Records + Drop>(
 ) -> Result<(), NoMemory>
     ensures happened { OnOk result (HasHappened config.now event.now connections.old connections.new recorded_store.old recorded_store.new) }
     ensures entered { IsEntered R.is_in_memory recorded_store.old recorded_store.new (turn_of_event connections.old event.now) }
+    ensures opens { recorded_store.new.opening ≡ recorded_store.old.opening }
     ensures same { OnErr result (connections.new ≡ connections.old) }
     ensures recorded_store { OnErr result (recorded_store.new ≡ recorded_store.old) }
     ensures memory { OnErr result (brings_bytes event.now ≡ true) }

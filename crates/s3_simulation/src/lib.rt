@@ -19,7 +19,7 @@ mod whole;
 mod world;
 
 pub use alike::{cuts_and_moves_are_alike, deaths_show};
-pub use laws::{runs_are_one, worlds_run};
+pub use laws::{opened_replays_are_replays, runs_are_one, worlds_run};
 pub use replay::Replay;
 pub use running::run;
 pub use trimmed::{faults_have_places, refused_leaves_nothing, trims_are_one};

@@ -1,12 +1,10 @@
 //! A connection over a store of its own, whose bytes come in pieces.
 
-ghost use Rattle.std.specs.Prelude.{◌≡◌, ◌≢◌, ◌<◌, ◌++◌, ℕ, false, List, [], length, IfOk, OnOk, OnErr, None};
+ghost use Rattle.std.specs.Prelude.{◌≡◌, ◌≢◌, ◌<◌, ◌++◌, ℕ, false, List, [], length, IfOk, OnOk, OnErr, None, Some};
 ghost use Rattle.s3_config.specs.Settings.{Settings};
-ghost use Rattle.s3_records.specs.Catalogue.{opening};
-ghost use Rattle.s3_session.specs.Replay.{Replays};
-ghost use Rattle.s3_store.specs.Steps.{opened};
+ghost use Rattle.s3_store.specs.Steps.{Standing as Base};
 ghost use Rattle.s3_simulation.specs.Played.{turn_of};
-ghost use Rattle.s3_simulation.specs.Replaying.{HasCome, HasTaken};
+ghost use Rattle.s3_simulation.specs.Replaying.{HasCome, HasTaken, ReplaysFrom};
 
 use crate::played::Played;
 use s3_calendar::Moment;
@@ -14,7 +12,7 @@ use s3_config::Config;
 use s3_connection::connections_write;
 use s3_journal::RecordedStore;
 use s3_machine::Rules;
-use s3_records::Records;
+use s3_records::{CommitError, Records};
 use s3_store::Store;
 use s3_terms::NoMemory;
 use std::alloc::Global;
@@ -27,8 +25,8 @@ const PIECE: usize = 65_536;
 // The number that the entries of the only connection have.
 const SEAT: u64 = 0;
 
-/// One connection over a store of its own, which begins with the opening buckets and has any keeper of records. All its
-/// messages have one moment, and each of its commands has its turn at once.
+/// One connection over a store of its own, which may hold anything and has any keeper of records. All its messages have one
+/// moment, and each of its commands has its turn at once.
 ///
 /// It takes its bytes in pieces of any size (`feed`), and hands out at the end what the connection wrote (`written`).
 /// Of the bytes it keeps what the connection keeps. No more is read after a reply that closes, after a refusal, and
@@ -54,20 +52,18 @@ impl<'a, R: Records + Drop> Model for Replay<'a, R> {
 }
 
 impl<'a, R: Records + Drop> Replay<'a, R> {
-    /// A connection of which nothing has come, over a store that holds the opening buckets of the settings and nothing else.
-    /// All its messages will have this moment.
+    /// A connection of which nothing has come, over this store, which is committed first. All its messages will have this moment.
     ///
     /// # Errors
     ///
-    /// `NoMemory` never comes, though no contract can say so.
+    /// `NoMemory` where that commit fails. Of records in memory it never comes, though no contract can say so.
     pub fn new(
         alloc: Global,
         config: &'a Config,
         store: Store<R>,
         moment: &'a Moment,
     ) -> Result<Replay<'a, R>, NoMemory>
-        requires opening { store.standing ≡ opened (opening config.now.buckets) }
-        ensures { IfOk result (λ replay. HasTaken replay config.now moment.now []) }
+        ensures { IfOk result (λ replay. HasTaken replay store.standing config.now moment.now []) }
     {
         let rules = Rules::of(config);
         let recorded_store = RecordedStore::new(alloc, rules, store)?;
@@ -88,8 +84,8 @@ impl<'a, R: Records + Drop> Replay<'a, R> {
     /// needed than there are numbers for commands. Some of the bytes may have been taken then, and the replay may only
     /// be dropped.
     pub fn feed(&mut self, bytes: &[u8]) -> Result<(), NoMemory>
-        ensures taken { (settings : Settings) (moment : ℕ) (before : List ℕ) → HasTaken self.old settings moment before
-            → OnOk result (HasTaken self.new settings moment (before ++ bytes.now)) }
+        ensures taken { (base : Base) (settings : Settings) (moment : ℕ) (before : List ℕ) → HasTaken self.old base settings moment before
+            → OnOk result (HasTaken self.new base settings moment (before ++ bytes.now)) }
         ensures memory { OnErr result (bytes.now ≢ []) }
     {
         let mut rest = bytes;
@@ -103,8 +99,8 @@ impl<'a, R: Records + Drop> Replay<'a, R> {
 
     // Takes a piece of the connection's bytes, and gives the commands in it their turns.
     fn take(&mut self, piece: &[u8]) -> Result<(), NoMemory>
-        ensures taken { (settings : Settings) (moment : ℕ) (before : List ℕ) → HasTaken self.old settings moment before
-            → OnOk result (HasTaken self.new settings moment (before ++ piece.now)) }
+        ensures taken { (base : Base) (settings : Settings) (moment : ℕ) (before : List ℕ) → HasTaken self.old base settings moment before
+            → OnOk result (HasTaken self.new base settings moment (before ++ piece.now)) }
     {
         self.piece(piece)?;
         for _ in 0..u64::MAX {
@@ -117,20 +113,34 @@ impl<'a, R: Records + Drop> Replay<'a, R> {
 
     // Gives a piece to the connection.
     fn piece(&mut self, piece: &[u8]) -> Result<(), NoMemory>
-        ensures { (settings : Settings) (moment : ℕ) (before : List ℕ) → HasCome self.old settings moment before
-            → OnOk result (HasCome self.new settings moment (before ++ piece.now)) }
+        ensures { (base : Base) (settings : Settings) (moment : ℕ) (before : List ℕ) → HasCome self.old base settings moment before
+            → OnOk result (HasCome self.new base settings moment (before ++ piece.now)) }
     {
         self.played.feed(self.alloc, self.config, piece)
     }
 
     // Gives the command that waits its turn, if one does: whether one did.
     fn turn(&mut self) -> bool
-        ensures stays { (settings : Settings) (moment : ℕ) (bytes : List ℕ) → HasCome self.old settings moment bytes
-            → HasCome self.new settings moment bytes }
+        ensures stays { (base : Base) (settings : Settings) (moment : ℕ) (bytes : List ℕ) → HasCome self.old base settings moment bytes
+            → HasCome self.new base settings moment bytes }
         ensures none { result ≡ false → turn_of self.new.played ≡ None }
     {
         self.played
             .take_turn(self.alloc, self.config, &mut self.recorded_store, SEAT)
+    }
+
+    /// Commits all that was answered so far: it may be told after that.
+    ///
+    /// # Errors
+    ///
+    /// Those of `RecordedStore::commit`. The replay is as it was. Records in memory have no error here.
+    pub fn commit(&mut self) -> Result<(), CommitError>
+        ensures committed { OnOk result (self.new.recorded_store.committed ≡ Some self.new.recorded_store.entries) }
+        ensures kept { OnOk result (self.new ≡ record self.old { recorded_store = record self.old.recorded_store { committed = Some self.old.recorded_store.entries } }) }
+        ensures same { OnErr result (self.new ≡ self.old) }
+        ensures memory { OnErr result (R.is_in_memory ≡ false) }
+    {
+        self.recorded_store.commit()
     }
 
     /// All that the connection writes, whose bytes end here. From now on it takes none.
@@ -139,10 +149,11 @@ impl<'a, R: Records + Drop> Replay<'a, R> {
     ///
     /// `NoMemory` where something is written and memory runs out.
     pub fn written(&mut self) -> Result<Vec<u8>, NoMemory>
-        ensures output { (settings : Settings) (moment : ℕ) (bytes : List ℕ) → HasTaken self.old settings moment bytes
-            → IfOk result (λ out. Replays settings moment bytes out.items) }
-        ensures memory { (settings : Settings) (moment : ℕ) (bytes : List ℕ) → HasTaken self.old settings moment bytes
-            → OnErr result ((out : List ℕ) × Replays settings moment bytes out × (0 < length out)) }
+        ensures output { (base : Base) (settings : Settings) (moment : ℕ) (bytes : List ℕ) → HasTaken self.old base settings moment bytes
+            → IfOk result (λ out. ReplaysFrom base settings moment bytes out.items) }
+        ensures memory { (base : Base) (settings : Settings) (moment : ℕ) (bytes : List ℕ) → HasTaken self.old base settings moment bytes
+            → OnErr result ((out : List ℕ) × ReplaysFrom base settings moment bytes out × (0 < length out)) }
+        ensures store { self.new.recorded_store ≡ self.old.recorded_store }
     {
         connections_write();
         self.played.end();

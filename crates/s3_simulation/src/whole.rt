@@ -5,8 +5,10 @@ ghost use Rattle.s3_config.specs.Settings.{Settings};
 ghost use Rattle.s3_http_heads.specs.Find.{found_in};
 ghost use Rattle.s3_session.specs.Decision.{Judges, open_yet};
 ghost use Rattle.s3_session.specs.Replay.{Replays};
-ghost use Rattle.s3_simulation.specs.Replaying.{HasTaken};
+ghost use Rattle.s3_store.specs.Steps.{Standing as Base};
+ghost use Rattle.s3_simulation.specs.Replaying.{HasTaken, ReplaysFrom};
 
+use crate::laws::opened_replays_are_replays;
 use crate::replay::Replay;
 use s3_calendar::Moment;
 use s3_config::Config;
@@ -67,6 +69,7 @@ fn replayed(
 ) -> Result<Vec<u8>, NoMemory>
     ensures { IfOk result (λ out. Replays config.now moment bytes.now out.items) }
 {
+    opened_replays_are_replays();
     let store = Store::open(alloc, config.buckets())?;
     let mut replay = Replay::new(alloc, config, store, &moment)?;
     let written = written_after(&mut replay, bytes);
@@ -79,8 +82,8 @@ fn written_after<R: Records + Drop>(
     replay: &mut Replay<'_, R>,
     bytes: &[u8],
 ) -> Result<Vec<u8>, NoMemory>
-    ensures { (settings : Settings) (moment : ℕ) → HasTaken replay.old settings moment []
-        → IfOk result (λ out. Replays settings moment bytes.now out.items) }
+    ensures { (base : Base) (settings : Settings) (moment : ℕ) → HasTaken replay.old base settings moment []
+        → IfOk result (λ out. ReplaysFrom base settings moment bytes.now out.items) }
 {
     replay.feed(bytes)?;
     replay.written()

@@ -1,8 +1,6 @@
 //! Connections that share one store.
 
-ghost use Rattle.std.specs.Prelude.{◌≡◌, ◌≢◌, ◌++◌, ◌∷◌, ◌<◌, ℕ, true, List, [], length, IfOk, OnOk, OnErr, IfSome, None, false};
-ghost use Rattle.s3_records.specs.Catalogue.{opening};
-ghost use Rattle.s3_store.specs.Steps.{opened};
+ghost use Rattle.std.specs.Prelude.{◌≡◌, ◌≢◌, ◌++◌, ◌∷◌, ◌<◌, ℕ, true, List, [], length, IfOk, OnOk, OnErr, IfSome, None, Some, false};
 ghost use Rattle.s3_events.specs.declared.event.Event.{Event as Happening};
 ghost use Rattle.s3_events.specs.Script.{connection_of_event};
 ghost use Rattle.s3_connection.specs.declared.stage.Wants.{Wants};
@@ -22,7 +20,7 @@ use s3_connection::{connections_write, outputs_are_one};
 use s3_events::Event;
 use s3_journal::RecordedStore;
 use s3_machine::Rules;
-use s3_records::Records;
+use s3_records::{CommitError, Records};
 use s3_session::Fault;
 use s3_store::Store;
 use s3_terms::NoMemory;
@@ -57,23 +55,23 @@ impl<'a, R: Records + Drop> Model for World<'a, R> {
 
 impl<'a, R: Records + Drop> World<'a, R> {
     /// Connections of which nothing came, one for each list of moments. Their numbers are the places of the lists, from
-    /// 0. The store has to hold the opening buckets, and nothing else.
+    /// 0. The store may hold anything, and is committed first.
     ///
     /// The messages of a connection have the moments of its list, in their order. Where the list has run out, its last
     /// moment comes again.
     ///
     /// # Errors
     ///
-    /// `NoMemory` where there is no memory for the connections.
+    /// `NoMemory` where there is no memory for the connections, or that commit fails. Records in memory don't fail there.
     pub fn new(
         alloc: Global,
         config: &'a Config,
         store: Store<R>,
         moments: &'a [Vec<Moment>],
     ) -> Result<World<'a, R>, NoMemory>
-        requires opening { store.standing ≡ opened (opening config.now.buckets) }
         ensures begins { IfOk result (λ world. StandsAfter world (each_moments moments.now) []) }
         ensures settings { IfOk result (λ world. world.settings ≡ config.now) }
+        ensures opens { IfOk result (λ world. world.recorded_store.opening ≡ store.standing) }
     {
         let connections = fresh(alloc, moments)?;
         let rules = Rules::of(config);
@@ -115,6 +113,7 @@ impl<'a, R: Records + Drop> World<'a, R> {
             → OnOk result (StandsAfter self.new moments (happened ++ event.now ∷ [])) }
         ensures entered { IsEntered R.is_in_memory self.old.recorded_store self.new.recorded_store (turn_of_event self.old.connections event.now) }
         ensures settings { self.new.settings ≡ self.old.settings }
+        ensures opens { self.new.recorded_store.opening ≡ self.old.recorded_store.opening }
         ensures same { OnErr result (self.new ≡ self.old) }
         ensures memory { OnErr result (brings_bytes event.now ≡ true) }
         ensures there { OnErr result (connection_of_event event.now < length self.old.connections) }
@@ -131,6 +130,20 @@ impl<'a, R: Records + Drop> World<'a, R> {
         );
         let _store = self.recorded_store.store();
         met
+    }
+
+    /// Commits all entries so far: their answers may be told after it.
+    ///
+    /// # Errors
+    ///
+    /// Those of `RecordedStore::commit`. The world is as it was. Records in memory have no error here.
+    pub fn commit(&mut self) -> Result<(), CommitError>
+        ensures committed { OnOk result (self.new.recorded_store.committed ≡ Some self.new.recorded_store.entries) }
+        ensures kept { OnOk result (self.new ≡ record self.old { recorded_store = record self.old.recorded_store { committed = Some self.old.recorded_store.entries } }) }
+        ensures same { OnErr result (self.new ≡ self.old) }
+        ensures memory { OnErr result (R.is_in_memory ≡ false) }
+    {
+        self.recorded_store.commit()
     }
 
     /// How many connections there are. It takes no memory.

@@ -97,7 +97,8 @@ fn serve<
 }
 
 fn main(rt: HostRuntime) -> ExitCode {
-    let (alloc, files, tables) = (rt.alloc(), SystemFiles(&rt), SqlKeeper);
+    let (alloc, files) = (rt.alloc(), SystemFiles(&rt));
+    let (tables, folders) = (SqlKeeper, FileKeeper(&rt));
     let words = arguments(&rt).unwrap_or(Vec::new(alloc));
     let (Some(mut device), Some(mut errors)) = (
         Recorded::new(Streams {
@@ -117,6 +118,7 @@ fn main(rt: HostRuntime) -> ExitCode {
         words.as_slice(),
         &files,
         &tables,
+        &folders,
         &mut device,
         &mut errors,
     );
@@ -130,7 +132,7 @@ fn main(rt: HostRuntime) -> ExitCode {
                 &options,
                 &files,
                 &tables,
-                &FileKeeper(&rt),
+                &folders,
                 &mut output,
                 &mut errors,
             )

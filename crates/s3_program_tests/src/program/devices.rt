@@ -1,5 +1,5 @@
 //! The files and streams that the tests run the program over, and the runs.
-use crate::keepers::FullTables;
+use crate::keepers::{FullTables, HeldFolders};
 use s3_cli::{Ran, run_words};
 use s3_devices::{Recorded, Streams};
 use s3_settings::Files;
@@ -141,8 +141,8 @@ pub fn files<'a>(is_full: bool) -> Shelf<'a> {
     }
 }
 
-/// A run on these words and files, over a device of the input and the output, with tables that have no room for a bucket;
-/// `None` where there is no device.
+/// A run on these words and files, over a device of the input and the output, with tables that have no room for a bucket
+/// and folders that can't be used; `None` where there is no device.
 pub fn run<'a, R: Wait>(
     rt: &R,
     alloc: Global,
@@ -163,6 +163,7 @@ pub fn run<'a, R: Wait>(
         words,
         files,
         &FullTables,
+        &HeldFolders,
         &mut device,
         &mut errors,
     ))

@@ -32,6 +32,7 @@ const USAGES: &str = "\
     s3d replay --keys keys --unknown|error: unexpected argument '--unknown' found\n;\
     s3d replay --keys keys a:b|error: unexpected argument 'a:b' found\n;\
     s3d replay --keys keys --moment 0 --log x|error: unexpected argument '--log' found\n;\
+    s3d replay --keys keys --moment 0 --data|error: a value is required for '--data <FOLDER>' but none was supplied\n;\
     s3d sign --help|--host <H> [NAME:VALUE]...\n;\
     s3d sign --keys keys --id id --moment 0 --method GET --target /|not provided:\n  --host <H>\n;\
     s3d sign --keys keys --id id --moment 0 --method GET --target / --host h --log x|error: unexpected argument '--log' found\n;\
@@ -68,6 +69,19 @@ const FAULTS: &str = "\
     s3d replay --keys shelf --moment 0 --records |bad setting;\
     s3d replay --keys shelf --events --records SQL|bad setting;\
     s3d replay --keys shelf --moment 0 --records sql|cannot read shelf;\
+    s3d replay --keys keys --data held|bad setting;\
+    s3d replay --keys shelf --moment 0 --data held --records map|bad setting;\
+    s3d replay --keys shelf --events --data held --records map|bad setting;\
+    s3d replay --keys shelf --moment 0 --data held --records sql|cannot read shelf;\
+    s3d replay --keys keys --events --data held --region US|bad setting;\
+    s3d replay --keys keys --moment 0 --data held|cannot use held: held;\
+    s3d replay --keys keys --events --data held --records sql|cannot use held: held;\
+    s3d replay --keys keys --moment 0 --data foreign|cannot use foreign: not a store;\
+    s3d replay --keys keys --events --faults --data later|cannot use later: later form;\
+    s3d replay --keys keys --moment 0 --data damaged|cannot use damaged: damaged;\
+    s3d replay --keys keys --events --data full|cannot use full: no room;\
+    s3d replay --keys keys --moment 0 --data broken|cannot use broken: failed;\
+    s3d replay --keys keys --moment 0 --data memory|out of memory;\
     s3d replay --keys none --moment 0|bad setting;\
     s3d replay --keys shelf --moment 0|cannot read shelf;\
     s3d replay --keys no-space --moment 0|bad keys line 2;\
@@ -196,7 +210,7 @@ const OUT_OF_MEMORY: Run = Run {
 // The words of a signing.
 const SIGN: &str = "s3d sign --keys keys --id id --moment 0 --method GET --target / --host h";
 
-static RUNS: [Run; 18] = [
+static RUNS: [Run; 20] = [
     ABLE,
     Run {
         name: "slow devices",
@@ -269,6 +283,19 @@ static RUNS: [Run; 18] = [
         name: "files without memory",
         is_full: true,
         ..OUT_OF_MEMORY
+    },
+    // A folder that can't be used is told before the input is read.
+    Run {
+        name: "a held folder and a failing input",
+        words: "s3d replay --keys keys --moment 0 --data held",
+        said: "cannot use held: held",
+        ..INPUT_FAILED
+    },
+    Run {
+        name: "a held folder and failing event lines",
+        words: "s3d replay --keys keys --events --data held",
+        said: "cannot use held: held",
+        ..INPUT_FAILED
     },
     // The tables have room where no bucket is named, and maps always.
     Run {

@@ -14,5 +14,8 @@ run_words-ran-requires-send-Q-Kept g c κs = search (sendable, records_send, row
 pub serve-requires-send-Q-Kept : goal.serve-requires-send-Q-Kept
 serve-requires-send-Q-Kept g c κs = search (sendable, records_send, rows_send, bodies_send) depth 20
 
+pub run_words-ran-requires-send-G-Kept : goal.run_words-ran-requires-send-G-Kept
+run_words-ran-requires-send-G-Kept g c κs = search (sendable, records_send, mirrored_send, block_bodies_send, disk_send, host_send) depth 20
+
 pub serve-requires-send-D-Kept : goal.serve-requires-send-D-Kept
 serve-requires-send-D-Kept g c κs = search (sendable, records_send, mirrored_send, block_bodies_send, disk_send, host_send) depth 20

@@ -1,13 +1,13 @@
-use Rattle.std.proofs.lemmas.Result.{IfOk-weaker}
-use Rattle.s3_simulation.specs.Run.{each_moments}
-use Rattle.s3_cli.proofs.FaultsLemmas.{faults_told}
+use Rattle.std.proofs.Common.{subst}
+use Rattle.std.specs.Prelude.{IfOk}
+use Rattle.s3_config.specs.Settings.{Settings}
+use Rattle.s3_store.specs.Steps.{Standing}
+use Rattle.s3_cli.specs.Run.{IsScriptAnsweredAs}
 use Rattle.s3_cli.proofs.events.script_answered.Goals as goal
 
-pub returns-then-faults : goal.returns-then-faults
-returns-then-faults g c =
-    let script = c.args.script.now in
-    let stands = c.in_ok-world.ensures.stands in
-    rw c.if-faults.true
-    (IfOk-weaker c.with_faults.result _ _
-    (λ out told. faults_told c.in_ok-world.world c.args.config.now script c.in_ok-text.text.items out.items c.worlds_run.ensures stands c.in_ok-world.ensures.settings c.in_ok-text.ensures told)
-    (c.with_faults.ensures (each_moments script.moments.items) script.events.items stands))
+pub returns : goal.returns
+returns g c =
+    let answered = c.world_text.ensures c.args.script.now c.in_ok-world.ensures.stands in
+    subst (λ (base : Standing). IfOk c.world_text.result (λ out. IsScriptAnsweredAs c.args.faults base c.args.config.now c.args.script.now out.items)) c.in_ok-world.ensures.opens
+    (subst (λ (settings : Settings). IfOk c.world_text.result (λ out. IsScriptAnsweredAs c.args.faults c.in_ok-world.world.recorded_store.opening settings c.args.script.now out.items)) c.in_ok-world.ensures.settings
+    answered)

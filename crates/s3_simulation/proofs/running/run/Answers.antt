@@ -1,6 +1,7 @@
 use Rattle.std.proofs.Common.{◌∙◌, subst}
 use Rattle.s3_config.specs.Settings.{Settings}
-use Rattle.s3_simulation.specs.Run.{Runs, each_moments}
+use Rattle.s3_store.specs.Steps.{Standing}
+use Rattle.s3_simulation.specs.Run.{RunsFrom, each_moments}
 use Rattle.s3_simulation.specs.Shown.{written_by_all}
 use Rattle.s3_simulation.proofs.running.run.Goals as goal
 
@@ -8,10 +9,13 @@ pub returns : goal.returns
 returns g c =
     let world = c.step_all.new.world in
     let moments = each_moments c.args.moments.now in
+    let opens = c.in_ok-step_all.ensures.opens ∙ c.in_ok-world.ensures.opens in
     record {
-      runs = subst (λ (settings : Settings). Runs settings moments c.args.events.now (written_by_all world.connections) world.recorded_store.entries)
+      runs = subst (λ (base : Standing). RunsFrom base c.args.config.now moments c.args.events.now (written_by_all world.connections) world.recorded_store.entries) opens
+          (subst (λ (settings : Settings). RunsFrom world.recorded_store.opening settings moments c.args.events.now (written_by_all world.connections) world.recorded_store.entries)
           (c.in_ok-step_all.ensures.settings ∙ c.in_ok-world.ensures.settings)
-          (c.worlds_run.ensures world moments c.args.events.now (c.in_ok-step_all.ensures.stands moments c.in_ok-world.ensures.begins)).0;
+          (c.worlds_run.ensures world moments c.args.events.now (c.in_ok-step_all.ensures.stands moments c.in_ok-world.ensures.begins)).0);
       stands = c.in_ok-step_all.ensures.stands moments c.in_ok-world.ensures.begins;
       settings = c.in_ok-step_all.ensures.settings ∙ c.in_ok-world.ensures.settings;
+      opens = opens;
     }

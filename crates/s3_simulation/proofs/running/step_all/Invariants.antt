@@ -6,4 +6,5 @@ abbrev pub invariant-loop-number : goal.invariant-loop-number
 invariant-loop-number g l = record {
   stands : (moments : List (List ℕ)) → StandsAfter l.fn.world moments [] → StandsAfter l.world moments (take l.number l.events);
   settings : l.world.settings ≡ l.fn.world.settings;
+  opens : l.world.recorded_store.opening ≡ l.fn.world.recorded_store.opening;
 }

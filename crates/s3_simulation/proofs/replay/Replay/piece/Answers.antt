@@ -5,7 +5,7 @@ use Rattle.s3_simulation.proofs.ReplayLemmas.{came_on}
 use Rattle.s3_simulation.proofs.replay.Replay.piece.Goals as goal
 
 pub returns : goal.returns
-returns g c settings moment before h =
-    let held = subst (λ (r : Replaying). HasCome r settings moment before) (sym c.self.view_is) h in
-    came_on _ settings moment before (before ++ c.args.piece.now) c.feed.new.self c.feed.result held
+returns g c base settings moment before h =
+    let held = subst (λ (r : Replaying). HasCome r base settings moment before) (sym c.self.view_is) h in
+    came_on _ base settings moment before (before ++ c.args.piece.now) c.feed.new.self c.feed.result held
     (c.feed.ensures.plays (moment ∷ []) (record { bytes = before; ended = false }) (history_of c.self.inside.recorded_store.entries))

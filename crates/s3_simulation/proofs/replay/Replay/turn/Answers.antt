@@ -7,11 +7,11 @@ use Rattle.s3_simulation.proofs.ReplayLemmas.{goes_on}
 use Rattle.s3_simulation.proofs.replay.Replay.turn.Goals as goal
 
 pub returns-clause-stays : goal.returns-clause-stays
-returns-clause-stays g c settings moment bytes h =
-    let held = subst (λ (r : Replaying). HasCome r settings moment bytes) (sym c.self.view_is) h in
+returns-clause-stays g c base settings moment bytes h =
+    let held = subst (λ (r : Replaying). HasCome r base settings moment bytes) (sym c.self.view_is) h in
     let recorded_store = c.self.inside.recorded_store in
     let on = c.take_turn.ensures.goes_on in
-    goes_on _ settings moment bytes bytes c.take_turn.new.self c.take_turn.new.recorded_store held
+    goes_on _ base settings moment bytes bytes c.take_turn.new.self c.take_turn.new.recorded_store held
     (λ plays.
     subst (Plays c.take_turn.new.self c.self.inside.config.now (moment ∷ []) (record { bytes = bytes; ended = false }))
     (sym (ap history_of on.added ∙ history_more recorded_store.entries on.made))
