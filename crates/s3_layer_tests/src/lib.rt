@@ -10,4 +10,6 @@ mod requests;
 #[cfg(test)]
 mod signing;
 #[cfg(test)]
+mod texts;
+#[cfg(test)]
 mod values;

@@ -18,3 +18,31 @@ mod settings;
 mod steps;
 mod versioning;
 mod versions;
+
+use crate::checks::check;
+
+#[test]
+fn values(rt: HostRuntime) {
+    let alloc = rt.alloc();
+    let told = [
+        ("bodies", bodies::hold(alloc)),
+        ("stamps and moments", calendar::hold(alloc)),
+        ("conversions", codes::hold(alloc)),
+        ("dates, ranges and lists of tags", conditions::hold(alloc)),
+        ("digits", digits::hold(alloc)),
+        ("documents", documents::hold(alloc)),
+        ("event lines", events::hold(alloc)),
+        ("histories", history::hold()),
+        ("MACs", hmac::hold(alloc)),
+        ("ids and tags", ids::hold(alloc)),
+        ("names and keys", names::hold(alloc)),
+        ("what is still to be sent", outbox::hold(alloc)),
+        ("payloads", payloads::hold(alloc)),
+        ("settings", settings::hold(alloc)),
+        ("versioning", versioning::hold(alloc)),
+        ("versions", versions::hold(alloc)),
+    ];
+    for (name, holds) in told {
+        check(&rt, holds, name);
+    }
+}

@@ -1,7 +1,6 @@
 //! Tests of `s3_stored_bodies`: bodies under numbers, by calls that any keeper of bodies takes.
 ghost use Rattle.std.specs.Prelude.{◌≡◌, ℕ, ◌<◌, ◌≤◌, All, IfOk};
 
-use crate::checks::check;
 use s3_bodies::Body;
 use s3_stored_bodies::{MemoryBodies, StoredBodies, give_up_all, joined, share_all};
 use s3_terms::NoMemory;
@@ -16,13 +15,18 @@ fn keep<B: StoredBodies>(bodies: &mut B, alloc: Global, bytes: &[u8]) -> Result<
     bodies.keep(alloc, body)
 }
 
+// Whether a body has these bytes.
+fn shows(alloc: Global, body: &Body, wanted: &[u8]) -> bool {
+    match body.to_vec(alloc) {
+        Ok(bytes) => bytes.as_slice() == wanted,
+        Err(_) => false,
+    }
+}
+
 // Whether a body was found, and has these bytes.
 fn has(alloc: Global, found: Result<Body, NoMemory>, wanted: &[u8]) -> bool {
     match found {
-        Ok(body) => match body.to_vec(alloc) {
-            Ok(bytes) => bytes.as_slice() == wanted,
-            Err(_) => false,
-        },
+        Ok(body) => shows(alloc, &body, wanted),
         Err(_) => false,
     }
 }
@@ -78,9 +82,8 @@ fn are_kept<B: StoredBodies>(bodies: &mut B, alloc: Global) -> Result<bool, NoMe
     Ok(stay(bodies, alloc, one, none, three)? & told)
 }
 
-#[test]
-fn bodies_under_numbers(rt: HostRuntime) {
-    let mut bodies = MemoryBodies::new(rt.alloc());
-    let is_right = are_kept(&mut bodies, rt.alloc()).unwrap_or(false);
-    check(&rt, is_right, "bodies under numbers");
+/// Whether bodies in memory are.
+pub(crate) fn hold(alloc: Global) -> bool {
+    let mut bodies = MemoryBodies::new(alloc);
+    are_kept(&mut bodies, alloc).unwrap_or(false)
 }

@@ -8,3 +8,5 @@ mod bodies;
 mod checks;
 #[cfg(test)]
 mod columns;
+#[cfg(test)]
+mod tests;

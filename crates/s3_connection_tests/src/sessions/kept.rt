@@ -132,27 +132,7 @@ impl Tried for Kept<'_, '_> {
     }
 }
 
-// Whether a connection with these moments goes as a script says.
-fn goes_at(
-    alloc: Global,
-    config: &Config,
-    store: &mut Store<MapRecords>,
-    moments: &[Moment],
-    script: &str,
-) -> bool {
-    let mut kept = Kept {
-        config,
-        connection: Connection::new(alloc),
-        moments,
-        given: 0,
-        store,
-    };
-    let goes = goes(alloc, &mut kept, script);
-    drop(kept);
-    goes
-}
-
-/// The same, with the moment of the server, or with that and the next second.
+/// Whether a connection goes as a script says, with the moment of the server, or with that and the next second.
 pub(crate) fn holds(
     alloc: Global,
     config: &Config,
@@ -164,9 +144,15 @@ pub(crate) fn holds(
         return false;
     };
     let second = Moment::new(first.seconds().saturating_add(1)).unwrap_or(first);
-    if is_timed {
-        goes_at(alloc, config, store, &[first, second], script)
-    } else {
-        goes_at(alloc, config, store, &[first], script)
-    }
+    let moments = [first, if is_timed { second } else { first }];
+    let mut kept = Kept {
+        config,
+        connection: Connection::new(alloc),
+        moments: &moments,
+        given: 0,
+        store,
+    };
+    let goes = goes(alloc, &mut kept, script);
+    drop(kept);
+    goes
 }

@@ -17,8 +17,8 @@ fn part_in(parts: &'static str, name: &str) -> Option<&'static str> {
     None
 }
 
-// What the part with this name stands for.
-fn part(name: &str) -> Option<&'static str> {
+/// What the part with this name stands for.
+pub(crate) fn part(name: &str) -> Option<&'static str> {
     part_in(REQUESTS, name).or(part_in(REPLIES, name))
 }
 

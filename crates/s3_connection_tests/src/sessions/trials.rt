@@ -5,7 +5,7 @@ use crate::sessions::connections::{CONNECTIONS, CUT_SHORT, LONG};
 use crate::sessions::cuts::{CUTS, Cut, writes};
 use crate::sessions::kept;
 use crate::sessions::line::Line;
-use crate::sessions::parts::{bytes_of, joined};
+use crate::sessions::parts::{joined, part};
 use crate::sessions::scripts::{
     ENDS, INVITED, KEPT, KEPT_TIMED, MESSAGES, REFUSED, STARVED, TIMED, UNINVITED,
 };
@@ -154,15 +154,19 @@ enum Rows {
     Kept { is_timed: bool },
 }
 
-// Whether a connection is answered so, and writes that however it is cut; `None` says that there was no memory, or that it
-// is no row.
-fn is_replayed(alloc: Global, config: &Config, row: &str, is_long: bool) -> Option<bool> {
+// Whether a connection is answered so, and writes that however it is cut.
+fn is_replayed(alloc: Global, config: &Config, bytes: &[u8], wanted: &[u8], is_long: bool) -> bool {
+    is_answered(alloc, config, bytes, wanted)
+        && (is_long || is_written(alloc, config, bytes, wanted))
+}
+
+// The same of the parts of a row; `None` says that there was no memory, or that it is no row.
+fn is_row_replayed(alloc: Global, config: &Config, row: &str, is_long: bool) -> Option<bool> {
     let (_name, parts) = row.split_once(" | ")?;
     let (sent, answered) = parts.split_once(" | ")?;
-    let bytes = bytes_of(alloc, sent)?;
-    let wanted = bytes_of(alloc, answered)?;
-    let is_right = is_answered(alloc, config, &bytes, &wanted);
-    Some(is_right && (is_long || is_written(alloc, config, &bytes, &wanted)))
+    let (both, len) = joined(alloc, sent, answered)?;
+    let (bytes, wanted) = both.split_at(len.min(both.len()));
+    Some(is_replayed(alloc, config, bytes, wanted, is_long))
 }
 
 // Whether a message with a head of so many bytes has a body behind it and before its last byte alone, and is refused where
@@ -195,15 +199,15 @@ fn is_cut_short(
 fn is_row_cut_short(alloc: Global, config: &Config, row: &str) -> Option<bool> {
     let (_name, parts) = row.split_once(" | ")?;
     let (head, body) = parts.split_once(" | ")?;
+    let refusal = part("IncompleteBody")?;
     let (bytes, len) = joined(alloc, head, body)?;
-    let refusal = bytes_of(alloc, "IncompleteBody")?;
-    is_cut_short(alloc, config, len, &bytes, &refusal)
+    is_cut_short(alloc, config, len, &bytes, refusal.as_bytes())
 }
 
 // Whether a row holds; `None` as above.
 fn holds(alloc: Global, config: &Config, rows: Rows, row: &str) -> Option<bool> {
     match rows {
-        Rows::Replayed { is_long } => is_replayed(alloc, config, row, is_long),
+        Rows::Replayed { is_long } => is_row_replayed(alloc, config, row, is_long),
         Rows::CutShort => is_row_cut_short(alloc, config, row),
         Rows::Scripts(pace) => Some(passes(alloc, config, Trial::Paced(pace, Deed::Script(row)))),
         Rows::Kept { is_timed } => Some(passes(alloc, config, Trial::Kept(is_timed, row))),
@@ -223,40 +227,27 @@ fn first_other(alloc: Global, rows: Rows, text: &'static str) -> Option<&'static
     None
 }
 
-#[test]
-fn connections_are_answered_however_they_are_cut(rt: HostRuntime) {
-    for (is_long, text) in [(false, CONNECTIONS), (true, LONG)] {
-        let other = first_other(rt.alloc(), Rows::Replayed { is_long }, text);
-        check_none(&rt, other);
-    }
-}
+// Texts, and what their rows are.
+static TEXTS: [(Rows, &str); 12] = [
+    (Rows::Replayed { is_long: false }, CONNECTIONS),
+    (Rows::Replayed { is_long: true }, LONG),
+    (Rows::CutShort, CUT_SHORT),
+    (Rows::Scripts(0), INVITED),
+    (Rows::Scripts(0), UNINVITED),
+    (Rows::Scripts(0), MESSAGES),
+    (Rows::Scripts(0), ENDS),
+    (Rows::Scripts(0), REFUSED),
+    (Rows::Scripts(0), STARVED),
+    (Rows::Scripts(1), TIMED),
+    (Rows::Kept { is_timed: false }, KEPT),
+    (Rows::Kept { is_timed: true }, KEPT_TIMED),
+];
 
+// Connections are answered however they are cut, also where they are cut short; they go step by step, and keep what comes.
 #[test]
-fn messages_are_cut_short(rt: HostRuntime) {
-    let other = first_other(rt.alloc(), Rows::CutShort, CUT_SHORT);
-    check_none(&rt, other);
-}
-
-#[test]
-fn connections_go_step_by_step(rt: HostRuntime) {
-    for (pace, text) in [
-        (0, INVITED),
-        (0, UNINVITED),
-        (0, MESSAGES),
-        (0, ENDS),
-        (0, REFUSED),
-        (0, STARVED),
-        (1, TIMED),
-    ] {
-        let other = first_other(rt.alloc(), Rows::Scripts(pace), text);
-        check_none(&rt, other);
-    }
-}
-
-#[test]
-fn connections_keep_what_comes(rt: HostRuntime) {
-    for (is_timed, text) in [(false, KEPT), (true, KEPT_TIMED)] {
-        let other = first_other(rt.alloc(), Rows::Kept { is_timed }, text);
+fn connections(rt: HostRuntime) {
+    for (rows, text) in &TEXTS {
+        let other = first_other(rt.alloc(), *rows, *text);
         check_none(&rt, other);
     }
 }

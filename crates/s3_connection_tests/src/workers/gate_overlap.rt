@@ -1,4 +1,7 @@
 //! Two connections at one shared store, each in a thread of its own: while one is inside a body, the other is answered.
+ghost use Rattle.std.specs.Prelude.{◌≡◌};
+ghost use Rattle.s3_devices.specs.Recorded.{no_traffic};
+
 use crate::workers::served::{HEAD, Sent, ending_over};
 use crate::workers::shared_store_handle::SharedStoreHandle;
 use crate::workers::stream::{Manner, MemoryStream, PLAIN};
@@ -9,6 +12,7 @@ use s3_journal::{Ground, Roster, SharedStore};
 use s3_records::MapRecords;
 use std::alloc::Global;
 use std::io::{Read, Write};
+use std::mem::drop;
 use std::sync::Wait;
 use std::sync::atomic::{AtomicBool, AtomicU64, Ordering};
 use std::time::{Clock, Duration};
@@ -169,6 +173,26 @@ impl<R: Clock> Write for Meeting<'_, R> {
 
 impl<R: Clock> WriteParts for Meeting<'_, R> {}
 
+// Whether a connection over this device, which has a seat of this roster, is closed.
+fn is_closed<J: Ground, R: Wait + Clock>(
+    rt: &R,
+    alloc: Global,
+    shared: &SharedStore<J, MapRecords>,
+    roster: &mut Roster<J, ()>,
+    config: &Config,
+    device: &mut Recorded<Meeting<'_, R>>,
+) -> bool
+    requires fresh { device.old.traffic ≡ no_traffic }
+{
+    let Ok(seat) = roster.seat() else {
+        return false;
+    };
+    let mut handle = SharedStoreHandle::new(rt, shared, seat);
+    let ending = ending_over(rt, alloc, config, &mut handle, device);
+    handle.leave(roster);
+    ending == Some(Ending::Closed)
+}
+
 /// Whether a connection over this stream, which has a seat of this roster, is closed and has written just what is wanted.
 pub(crate) fn is_answered<J: Ground, R: Wait + Clock>(
     rt: &R,
@@ -179,16 +203,15 @@ pub(crate) fn is_answered<J: Ground, R: Wait + Clock>(
     meeting: Meeting<'_, R>,
     wanted: &[u8],
 ) -> bool {
-    let Some(mut device) = Recorded::new(meeting) else {
-        return false;
-    };
-    let Ok(seat) = roster.seat() else {
-        return false;
-    };
-    let mut handle = SharedStoreHandle::new(rt, shared, seat);
-    let ending = ending_over(rt, alloc, config, &mut handle, &mut device);
-    handle.leave(roster);
-    ending == Some(Ending::Closed) && device.stream().stream.output.as_slice() == wanted
+    match Recorded::new(meeting) {
+        Some(mut device) => {
+            let is_closed = is_closed(rt, alloc, shared, roster, config, &mut device);
+            let has_written = device.stream().stream.output.as_slice() == wanted;
+            drop(device);
+            is_closed && has_written
+        }
+        None => false,
+    }
 }
 
 // The answer that a connection has to have, and how its stream gives: the first read of the one that is held ends with its head.

@@ -1,10 +1,9 @@
 //! The lines that a log tells of a connection's messages.
-use crate::workers::served::{HEAD, Sent, go_on, handle};
+use crate::workers::served::{HEAD, Sent, handle, went};
 use crate::workers::stream::{MemoryStream, PLAIN};
 use s3_config::Config;
 use s3_devices::Recorded;
-use s3_driver::{Driver, Ending, RecordedStoreHandle, State};
-use s3_history::Recorder;
+use s3_driver::{Ending, RecordedStoreHandle, State};
 use s3_log::{Log, LogWriter, MessageLog};
 use s3_records::MapRecords;
 use s3_settings::Files;
@@ -157,7 +156,37 @@ impl Files for File {
     }
 }
 
-// Serves a connection that sends this, and tells its messages; whether it was closed.
+// Whether a connection was closed.
+fn is_closed(stands: Option<(State, bool)>) -> bool {
+    match stands {
+        Some((state, _)) => state == State::Ended(Ending::Closed),
+        None => false,
+    }
+}
+
+// Serves a connection over this device, and tells its messages; whether it was closed.
+fn is_served_over<R: Wait + Clock>(
+    rt: &R,
+    alloc: Global,
+    config: &Config,
+    handle: &mut RecordedStoreHandle<MapRecords>,
+    log: &Log,
+    device: &mut Recorded<MemoryStream<'static>>,
+) -> bool {
+    let Ok(now) = Instant::now(rt) else {
+        return false;
+    };
+    match MessageLog::new(rt, alloc, Some(log), 7, Some(peer()), now) {
+        Ok(mut observer) => {
+            let stands = went(alloc, config, handle, &mut observer, device, MOVES);
+            drop(observer);
+            is_closed(stands)
+        }
+        Err(_) => false,
+    }
+}
+
+// The same of one that sends this.
 fn is_served<R: Wait + Clock>(
     rt: &R,
     alloc: Global,
@@ -166,93 +195,125 @@ fn is_served<R: Wait + Clock>(
     log: &Log,
     bytes: &'static [u8],
 ) -> bool {
-    let stream = MemoryStream::new(bytes, Vec::new(alloc), PLAIN);
-    let (Some(mut device), Some(mut moments)) = (Recorded::new(stream), Recorder::new()) else {
-        return false;
-    };
-    let Ok(now) = Instant::now(rt) else {
-        return false;
-    };
-    let Ok(mut observer) = MessageLog::new(rt, alloc, Some(log), 7, Some(peer()), now) else {
-        return false;
-    };
-    let mut driver = Driver::new(alloc);
-    let state = go_on(
-        alloc,
-        config,
-        handle,
-        &mut driver,
-        &mut moments,
-        &mut observer,
-        &mut device,
-        MOVES,
-    );
-    drop(driver);
-    state == State::Ended(Ending::Closed)
+    match Recorded::new(MemoryStream::new(bytes, Vec::new(alloc), PLAIN)) {
+        Some(mut device) => {
+            let is_served = is_served_over(rt, alloc, config, handle, log, &mut device);
+            drop(device);
+            is_served
+        }
+        None => false,
+    }
 }
 
-// The file that a log is written to, once nobody tells more.
-fn written<R: Wait + Clock>(rt: &R, alloc: Global, log: &Log) -> Option<Vec<u8>> {
-    log.leave(rt);
-    written_by(rt, alloc, slice::from_ref(log), false)
-}
-
-// The file that these logs are written to, once nobody tells more, where its first write may fail.
+// The file that these logs are written to, to which nobody tells more, where its first write may fail.
 fn written_by<R: Wait + Clock>(
     rt: &R,
     alloc: Global,
     logs: &[Log],
     fails: bool,
 ) -> Option<Vec<u8>> {
-    let file = File::new(alloc, fails);
     let mut writer = LogWriter::new(alloc).ok()?;
+    let file = File::new(alloc, fails);
     writer.write(rt, alloc, logs, &file, "log");
     drop(writer);
     Some(file.give())
 }
 
-// A log that was told of one message, and to which nobody tells more.
-fn log_of_one<R: Wait + Clock>(rt: &R, alloc: Global, config: &Config) -> Option<Log> {
-    let log = Log::new(alloc, 1).ok()?;
-    let mut handle = handle(alloc, config)?;
-    let is_served = is_served(rt, alloc, config, &mut handle, &log, MALFORMED);
-    drop(handle);
-    log.leave(rt);
-    if is_served { Some(log) } else { None }
-}
-
-// Two such logs.
-fn two_logs<R: Wait + Clock>(rt: &R, alloc: Global, config: &Config) -> Option<Vec<Log>> {
-    let mut logs = Vec::new(alloc);
-    for _ in 0..2 {
-        logs.push(log_of_one(rt, alloc, config)?).ok()?;
-    }
-    Some(logs)
-}
-
-/// Whether a line of which half was written is told as lost, in a line of its own, and the next line stands after that.
-pub(crate) fn losses_are_told<R: Wait + Clock>(rt: &R, alloc: Global, config: &Config) -> bool {
-    let Some(logs) = two_logs(rt, alloc, config) else {
-        return false;
-    };
-    let text = written_by(rt, alloc, &logs, true);
-    drop(logs);
-    match text {
-        Some(text) => str::from_utf8(&text).is_ok_and(|text| text.contains(AFTER_HALF)),
+// Whether a connection that sends this was closed, of whose messages this log was told.
+fn is_logged<R: Wait + Clock>(
+    rt: &R,
+    alloc: Global,
+    config: &Config,
+    log: &Log,
+    bytes: &'static [u8],
+) -> bool {
+    match handle(alloc, config) {
+        Some(mut handle) => {
+            let is_served = is_served(rt, alloc, config, &mut handle, log, bytes);
+            drop(handle);
+            log.leave(rt);
+            is_served
+        }
         None => false,
     }
 }
 
-// Its lines, each up to how many bytes were written; the microseconds have to stand behind that.
-fn fronts(alloc: Global, text: &[u8]) -> Option<Vec<u8>> {
-    let mut fronts = Vec::new(alloc);
-    for line in text.split_inclusive(|byte| *byte == b'\n') {
-        let line = str::from_utf8(line).ok()?;
-        let (front, _) = line.split_once(",\"microseconds\":")?;
-        fronts.extend_from_slice(front.as_bytes()).ok()?;
-        fronts.push(b'\n').ok()?;
+// A log that was told of the messages of a connection that sends this, where it was closed, and to which nobody tells more.
+fn log_of<R: Wait + Clock>(
+    rt: &R,
+    alloc: Global,
+    config: &Config,
+    bytes: &'static [u8],
+) -> Option<Log> {
+    let log = Log::new(alloc, 1).ok()?;
+    if is_logged(rt, alloc, config, &log, bytes) {
+        Some(log)
+    } else {
+        None
     }
-    Some(fronts)
+}
+
+// Two such logs of one message each, as far as there is memory for them.
+fn two_logs<R: Wait + Clock>(rt: &R, alloc: Global, config: &Config) -> Vec<Log> {
+    let mut logs = Vec::new(alloc);
+    for _ in 0..2 {
+        if let Some(log) = log_of(rt, alloc, config, MALFORMED) {
+            drop(logs.push(log));
+        }
+    }
+    logs
+}
+
+// Whether the text has this part.
+fn has_part(text: &[u8], part: &str) -> bool {
+    match str::from_utf8(text) {
+        Ok(text) => text.contains(part),
+        Err(_) => false,
+    }
+}
+
+/// Whether a line of which half was written is told as lost, in a line of its own, and the next line stands after that.
+pub(crate) fn losses_are_told<R: Wait + Clock>(rt: &R, alloc: Global, config: &Config) -> bool {
+    let logs = two_logs(rt, alloc, config);
+    let are_two = logs.len() == 2;
+    let text = written_by(rt, alloc, &logs, true);
+    drop(logs);
+    match text {
+        Some(text) => are_two & has_part(&text, AFTER_HALF),
+        None => false,
+    }
+}
+
+// What is wanted behind this line, where it begins with it up to how many bytes were written; the microseconds have to stand
+// behind that.
+fn behind<'a>(line: &str, wanted: &'a [u8]) -> Option<&'a [u8]> {
+    let (front, _) = line.split_once(",\"microseconds\":")?;
+    wanted
+        .strip_prefix(front.as_bytes())?
+        .strip_prefix(b"\n".as_slice())
+}
+
+// Whether these are the lines of a text, each up to how many bytes were written.
+fn are_lines(text: &str, wanted: &[u8]) -> bool {
+    let mut left = wanted;
+    for line in text.split('\n') {
+        match behind(line, left) {
+            Some(behind) => left = behind,
+            None => return false,
+        }
+    }
+    left.is_empty()
+}
+
+// The same of a whole text, which has no line where none is wanted.
+fn has_lines(text: &[u8], wanted: &str) -> bool {
+    match str::from_utf8(text) {
+        Ok(text) => match text.strip_suffix('\n') {
+            Some(lines) => are_lines(lines, wanted.as_bytes()),
+            None => text.is_empty() && wanted.is_empty(),
+        },
+        Err(_) => false,
+    }
 }
 
 // What is told of a connection that sends this, where it was closed.
@@ -262,24 +323,13 @@ fn told<R: Wait + Clock>(
     config: &Config,
     bytes: &'static [u8],
 ) -> Option<Vec<u8>> {
-    let (Ok(log), Some(mut handle)) = (Log::new(alloc, 1), handle(alloc, config)) else {
-        return None;
-    };
-    let is_served = is_served(rt, alloc, config, &mut handle, &log, bytes);
-    drop(handle);
-    let text = written(rt, alloc, &log);
-    if is_served { text } else { None }
-}
-
-// Whether the connection of a row is told so.
-fn is_told<R: Wait + Clock>(rt: &R, alloc: Global, config: &Config, row: usize) -> bool {
-    match told(rt, alloc, config, sent(row)) {
-        Some(text) => match fronts(alloc, &text) {
-            Some(fronts) => ROWS.get(row).map(|wanted| wanted.as_bytes())
-                == Some(fronts.as_slice()),
-            None => false,
-        },
-        None => false,
+    match log_of(rt, alloc, config, bytes) {
+        Some(log) => {
+            let text = written_by(rt, alloc, slice::from_ref(&log), false);
+            drop(log);
+            text
+        }
+        None => None,
     }
 }
 
@@ -361,30 +411,32 @@ const HEADS: [(&[u8], &str); 18] = [
     ),
 ];
 
-// Whether the line of a head has its part.
-fn has_part<R: Wait + Clock>(rt: &R, alloc: Global, config: &Config, row: usize) -> bool {
-    let Some((head, part)) = HEADS.get(row) else {
+// What a row's connection sends, and what is told of it: whole lines, or a part of one behind the rows of lines.
+fn row_of(row: usize) -> Option<(&'static [u8], &'static str)> {
+    match ROWS.get(row) {
+        Some(lines) => Some((sent(row), *lines)),
+        None => {
+            let (head, part) = HEADS.get(row.saturating_sub(ROWS.len()))?;
+            Some((*head, *part))
+        }
+    }
+}
+
+// Whether the connection of a row is told so.
+fn is_told<R: Wait + Clock>(rt: &R, alloc: Global, config: &Config, row: usize) -> bool {
+    let Some((sent, wanted)) = row_of(row) else {
         return false;
     };
-    match told(rt, alloc, config, head) {
-        Some(text) => str::from_utf8(&text).is_ok_and(|text| text.contains(part)),
+    match told(rt, alloc, config, sent) {
+        Some(text) if row < ROWS.len() => has_lines(&text, wanted),
+        Some(text) => has_part(&text, wanted),
         None => false,
     }
 }
 
-/// Whether the line of each head has its part.
-pub(crate) fn heads_are_told<R: Wait + Clock>(rt: &R, alloc: Global, config: &Config) -> bool {
-    for row in 0..HEADS.len() {
-        if !has_part(rt, alloc, config, row) {
-            return false;
-        }
-    }
-    true
-}
-
 /// Whether the messages of each row's connection are told as it says.
 pub(crate) fn messages_are_told<R: Wait + Clock>(rt: &R, alloc: Global, config: &Config) -> bool {
-    for row in 0..ROWS.len() {
+    for row in 0..ROWS.len() + HEADS.len() {
         if !is_told(rt, alloc, config, row) {
             return false;
         }

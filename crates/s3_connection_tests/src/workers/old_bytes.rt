@@ -5,7 +5,6 @@ use crate::workers::stream::{MemoryStream, PLAIN};
 use s3_config::Config;
 use s3_journal::{Ground, Roster, SharedStore};
 use s3_records::MapRecords;
-use s3_terms::NoMemory;
 use std::alloc::Global;
 use std::sync::Wait;
 use std::time::Clock;
@@ -50,13 +49,13 @@ const GET_ANSWER: &str = got!("", 1, "81615449a98aaaad8dc179b3bec87f38", 131072,
 const HELD_WRITE: u64 = 3;
 
 // A put of the object whose bytes are all this letter, and what is sent behind it.
-fn put_and(alloc: Global, letter: u8, behind: &[u8]) -> Result<Vec<u8>, NoMemory> {
-    let letters = Vec::from_elem(alloc, letter, SIZE)?;
-    Ok([PUT, &letters, behind].concat(alloc)?)
+fn put_and(alloc: Global, letter: u8, behind: &[u8]) -> Option<Vec<u8>> {
+    let letters = Vec::from_elem(alloc, letter, SIZE).ok()?;
+    [PUT, &letters, behind].concat(alloc).ok()
 }
 
 // What a connection sends: the one puts the object and gets it, the other puts it with another letter.
-fn sent_by(alloc: Global, connection: u64) -> Result<Vec<u8>, NoMemory> {
+fn sent_by(alloc: Global, connection: u64) -> Option<Vec<u8>> {
     if connection == HELD {
         put_and(alloc, b'a', GET)
     } else {
@@ -65,30 +64,14 @@ fn sent_by(alloc: Global, connection: u64) -> Result<Vec<u8>, NoMemory> {
 }
 
 // What it has to be answered.
-fn wanted_by(alloc: Global, connection: u64) -> Result<Vec<u8>, NoMemory> {
+fn wanted_by(alloc: Global, connection: u64) -> Option<Vec<u8>> {
     if connection != HELD {
-        return Ok(Vec::from_slice(alloc, OTHER_ANSWER)?);
+        return Vec::from_slice(alloc, OTHER_ANSWER).ok();
     }
-    let letters = Vec::from_elem(alloc, b'a', SIZE)?;
-    Ok([PUT_ANSWER, GET_ANSWER.as_bytes(), &letters].concat(alloc)?)
-}
-
-// Whether the connection of this number is answered as it has to be.
-fn is_right<J: Ground, R: Wait + Clock>(
-    rt: &R,
-    alloc: Global,
-    store: &SharedStore<J, MapRecords>,
-    roster: &mut Roster<J, ()>,
-    config: &Config,
-    marks: &Marks,
-    connection: u64,
-) -> Result<bool, NoMemory> {
-    let sent = sent_by(alloc, connection)?;
-    let wanted = wanted_by(alloc, connection)?;
-    let stream = MemoryStream::new(&sent, Vec::new(alloc), PLAIN);
-    let mut meeting = Meeting::new(rt, marks, connection, stream);
-    meeting.held_write = HELD_WRITE;
-    Ok(is_answered(rt, alloc, store, roster, config, meeting, &wanted))
+    let letters = Vec::from_elem(alloc, b'a', SIZE).ok()?;
+    [PUT_ANSWER, GET_ANSWER.as_bytes(), &letters]
+        .concat(alloc)
+        .ok()
 }
 
 /// Whether the connection of this number is answered as it has to be: the one is held behind the head of a reply, until the other has
@@ -102,5 +85,13 @@ pub(crate) fn replaces<J: Ground, R: Wait + Clock>(
     marks: &Marks,
     connection: u64,
 ) -> bool {
-    is_right(rt, alloc, store, roster, config, marks, connection).unwrap_or(false)
+    match (sent_by(alloc, connection), wanted_by(alloc, connection)) {
+        (Some(sent), Some(wanted)) => {
+            let stream = MemoryStream::new(&sent, Vec::new(alloc), PLAIN);
+            let mut meeting = Meeting::new(rt, marks, connection, stream);
+            meeting.held_write = HELD_WRITE;
+            is_answered(rt, alloc, store, roster, config, meeting, &wanted)
+        }
+        _ => false,
+    }
 }

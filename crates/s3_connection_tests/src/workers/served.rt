@@ -14,6 +14,7 @@ use s3_machine::Rules;
 use s3_records::MapRecords;
 use s3_store::Store;
 use std::alloc::Global;
+use std::mem::drop;
 use std::sync::Wait;
 
 // A put of `hello`, and a get of it. They are signed outside of this program, by Python's `hmac`.
@@ -160,7 +161,26 @@ fn written_of(stream: &MemoryStream<'_>, wanted: &[u8]) -> Option<usize> {
     }
 }
 
-/// How a connection of these bytes ends over a stream of this manner.
+// How a connection of these bytes ends over a stream of this manner, with a handle that has answered nothing.
+fn end_with<R: Wait>(
+    rt: &R,
+    alloc: Global,
+    config: &Config,
+    handle: &mut RecordedStoreHandle<MapRecords>,
+    bytes: &[u8],
+    manner: Manner,
+    wanted: &[u8],
+) -> Option<End>
+    requires none { entries_of_seat handle.old.seat handle.old.recorded_store.entries ≡ [] }
+{
+    let mut device = Recorded::new(MemoryStream::new(bytes, Vec::new(alloc), manner))?;
+    let ending = ending_over(rt, alloc, config, handle, &mut device);
+    let written = written_of(device.stream(), wanted);
+    drop(device);
+    Some((ending?, written))
+}
+
+/// The same with a handle of its own.
 pub(crate) fn end_over<R: Wait>(
     rt: &R,
     alloc: Global,
@@ -170,10 +190,9 @@ pub(crate) fn end_over<R: Wait>(
     wanted: &[u8],
 ) -> Option<End> {
     let mut handle = handle(alloc, config)?;
-    let mut device = Recorded::new(MemoryStream::new(bytes, Vec::new(alloc), manner))?;
-    let ending = ending_over(rt, alloc, config, &mut handle, &mut device);
+    let end = end_with(rt, alloc, config, &mut handle, bytes, manner, wanted);
     drop(handle);
-    Some((ending?, written_of(device.stream(), wanted)))
+    end
 }
 
 // How many turns a connection takes in one go at most.
@@ -221,4 +240,30 @@ fn answer_turn<N: StoreHandle, O: MessageObserver>(
         let answered = handle.call(turn);
         driver.answer(alloc, observer, answered);
     }
+}
+
+/// The same of a new connection: how it stands then, and whether what has come begins no head.
+pub(crate) fn went<N: StoreHandle, D: Device, O: MessageObserver>(
+    alloc: Global,
+    config: &Config,
+    handle: &mut N,
+    observer: &mut O,
+    device: &mut D,
+    moves: u32,
+) -> Option<(State, bool)> {
+    let mut moments = Recorder::new()?;
+    let mut driver = Driver::new(alloc);
+    let state = go_on(
+        alloc,
+        config,
+        handle,
+        &mut driver,
+        &mut moments,
+        observer,
+        device,
+        moves,
+    );
+    let begins_no_head = driver.begins_no_head();
+    drop(driver);
+    Some((state, begins_no_head))
 }

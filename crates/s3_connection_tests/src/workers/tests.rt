@@ -4,7 +4,7 @@ use crate::workers::batches::first_other_batch;
 use crate::workers::connections::first_other_connection;
 use crate::workers::journal::two_seats_are_answered;
 use crate::workers::limits::waits_are_limited;
-use crate::workers::lines::{heads_are_told, losses_are_told, messages_are_told};
+use crate::workers::lines::{losses_are_told, messages_are_told};
 use crate::workers::seats::{old_bytes_are_sent, seats_work};
 use crate::workers::served::config;
 use crate::workers::turns::two_take_turns;
@@ -47,9 +47,6 @@ fn first_other<R: Threads + Wait + Clock + Sync>(
     }
     if !messages_are_told(rt, alloc, config) {
         return Some("lines of a log");
-    }
-    if !heads_are_told(rt, alloc, config) {
-        return Some("operations and queries in lines of a log");
     }
     if !losses_are_told(rt, alloc, config) {
         return Some("lines of a log that can't be written");

@@ -2,16 +2,16 @@
 //!
 //! A row is the text of a head, a bar, and what is told of it: the answer, or the name of its refusal. A `^` stands between
 //! two rows: one text costs less to prove than a table. `{t*255}` stands for 255 times `t`.
-use crate::requests::canonical::{hash_text, joined_text, query_text, uri_text};
-use crate::requests::heads::{has_parts, length_text};
-use crate::requests::plans::{description_text, operation_text, route_text};
-use crate::requests::targets::{parameters_text, target_text};
+use crate::checks::Rows;
+use crate::requests::canonical::{add_hash, add_joined, add_query, add_uri};
+use crate::requests::heads::{add_length, has_parts};
+use crate::requests::plans::add_plan;
+use crate::requests::targets::{add_parameters, add_target};
+use crate::texts::{add, add_code, add_number, add_text, is_same};
 use s3_http_heads::Head;
-use s3_terms::{Code, Dialect};
+use s3_terms::Dialect;
 use std::alloc::Global;
-
-/// A text that tells of something, or the refusal in its place.
-pub(crate) type Told = Result<Vec<u8>, Code>;
+use std::mem::drop;
 
 /// What is asked of a head.
 pub(crate) enum Question {
@@ -56,128 +56,64 @@ pub(crate) struct Table {
     pub(crate) end: &'static str,
 }
 
-/// Whether two texts are the same.
-pub(crate) fn is_same(text: &[u8], other: &[u8]) -> bool {
-    text == other
+// Adds whether it is so, in a word.
+fn add_whether(out: &mut Vec<u8>, is_so: bool) {
+    add(out, if is_so { b"yes" } else { b"no" });
 }
 
-/// The word.
-pub(crate) fn word(alloc: Global, word: &str) -> Told {
-    Ok(Vec::from_slice(alloc, word.as_bytes())?)
-}
-
-// Whether it is so, in a word.
-fn whether(alloc: Global, is_so: bool) -> Told {
-    word(alloc, if is_so { "yes" } else { "no" })
-}
-
-/// The number in decimal digits.
-pub(crate) fn number(alloc: Global, number: u64) -> Told {
-    match format!(in alloc; "{number}") {
-        Ok(text) => Ok(text.into_bytes()),
-        Err(_) => Err(Code::InternalError),
-    }
-}
-
-// The answer to the question.
-fn answer(alloc: Global, head: &Head, question: &Question) -> Told {
+// Adds the answer to a question.
+fn add_answer(alloc: Global, out: &mut Vec<u8>, head: &Head, question: &Question) {
     match question {
-        Question::Closes => whether(alloc, head.closes()),
-        Question::Expects => whether(alloc, head.expects_continue()),
-        Question::Lines => number(alloc, head.header_count() as u64),
-        Question::Parts => whether(alloc, has_parts(head)),
-        Question::Length => length_text(alloc, head),
-        Question::Target => target_text(alloc, head),
-        Question::Parameters => parameters_text(alloc, head),
-        Question::Uri => uri_text(alloc, head),
-        Question::Query => query_text(alloc, head),
-        Question::Joined => joined_text(alloc, head),
-        Question::Hash => hash_text(alloc, head),
-        Question::Route => route_text(alloc, head),
-        Question::Operation => operation_text(alloc, head),
-        Question::Description => description_text(alloc, Dialect::Json, head),
-        Question::DescriptionInXml => description_text(alloc, Dialect::S3, head),
+        Question::Closes => add_whether(out, head.closes()),
+        Question::Expects => add_whether(out, head.expects_continue()),
+        Question::Lines => add_number(out, head.header_count() as u64),
+        Question::Parts => add_whether(out, has_parts(head)),
+        Question::Length => add_length(out, head),
+        Question::Target => add_target(out, head),
+        Question::Parameters => add_parameters(out, head),
+        Question::Uri => add_uri(alloc, out, head),
+        Question::Query => add_query(alloc, out, head),
+        Question::Joined => add_joined(alloc, out, head),
+        Question::Hash => add_hash(alloc, out, head),
+        Question::DescriptionInXml => add_plan(alloc, out, Dialect::S3, head, question),
+        _ => add_plan(alloc, out, Dialect::Json, head, question),
     }
 }
 
-// The answer for the head of this text.
-fn answer_of(alloc: Global, question: &Question, text: &[u8]) -> Told {
-    let head = Head::read(alloc, text)?;
-    let told = answer(alloc, &head, question);
-    drop(head);
-    told
-}
-
-/// Whether this is what is told.
-pub(crate) fn is_told(told: &Told, wanted: &[u8]) -> bool {
-    match told {
-        Ok(text) => is_same(text, wanted),
-        Err(code) => is_same(code.name().as_bytes(), wanted),
+// Adds the answer for the head of this text.
+fn add_answer_of(alloc: Global, out: &mut Vec<u8>, question: &Question, text: &[u8]) {
+    match Head::read(alloc, text) {
+        Ok(head) => add_answer(alloc, out, &head, question),
+        Err(code) => add_code(out, code),
     }
 }
 
-/// Whether that is told of the head of this text.
+/// Whether this is what is told of the head of this text.
 pub(crate) fn is_so(alloc: Global, question: &Question, text: &[u8], wanted: &[u8]) -> bool {
-    is_told(&answer_of(alloc, question, text), wanted)
+    let mut out = Vec::new(alloc);
+    add_answer_of(alloc, &mut out, question, text);
+    is_same(&out, wanted)
 }
 
-// The front, the copies of the piece, which are told by their number, and the end.
-fn repeated(alloc: Global, front: &str, copies: &str, end: &str) -> Option<Vec<u8>> {
-    let (piece, count) = copies.split_once('*')?;
-    let count = count.parse::<usize>().ok()?;
-    crate::requests::texts::repeated(
-        alloc,
-        front.as_bytes(),
-        piece.as_bytes(),
-        count,
-        end.as_bytes(),
-    )
-    .ok()
+// Adds the text of a row's head; `None` says that it isn't well written.
+fn add_row(out: &mut Vec<u8>, table: &Table, text: &str) -> Option<()> {
+    add(out, table.front.as_bytes());
+    add_text(out, text)?;
+    add(out, table.end.as_bytes());
+    Some(())
 }
 
-// The text that this one stands for; `None` where there is no memory for it.
-fn spelled(alloc: Global, text: &str) -> Option<Vec<u8>> {
-    match text.split_once('{') {
-        Some((front, rest)) => {
-            let (copies, end) = rest.split_once('}')?;
-            repeated(alloc, front, copies, end)
-        }
-        None => Vec::from_slice(alloc, text.as_bytes()).ok(),
+impl Rows for Table {
+    fn rows(&self) -> &'static str {
+        self.rows
     }
-}
 
-// The text of a row's head.
-fn text_of(alloc: Global, table: &Table, text: &str) -> Option<Vec<u8>> {
-    let text = spelled(alloc, text)?;
-    [table.front.as_bytes(), &text, table.end.as_bytes()]
-        .concat(alloc)
-        .ok()
-}
-
-// Whether the row of this table holds; `None` says that it isn't well written.
-fn holds(alloc: Global, table: &Table, row: &str) -> Option<bool> {
-    let (text, wanted) = row.split_once('|')?;
-    let text = text_of(alloc, table, text)?;
-    Some(is_so(alloc, &table.question, &text, wanted.as_bytes()))
-}
-
-// The first row of this table that doesn't hold.
-fn first_in(alloc: Global, table: &Table) -> Option<&'static str> {
-    for row in table.rows.split('^') {
-        if holds(alloc, table, row) != Some(true) {
-            return Some(row);
-        }
+    fn holds(&self, alloc: Global, row: &str) -> Option<bool> {
+        let (text, wanted) = row.split_once('|')?;
+        let mut bytes = Vec::new(alloc);
+        let is_spelled = add_row(&mut bytes, self, text).is_some();
+        let is_so = is_so(alloc, &self.question, &bytes, wanted.as_bytes());
+        drop(bytes);
+        Some(is_spelled & is_so)
     }
-    None
-}
-
-/// The first row of these tables that doesn't hold.
-pub(crate) fn first_other(alloc: Global, tables: &[Table]) -> Option<&'static str> {
-    for table in tables {
-        let other = first_in(alloc, table);
-        if other.is_some() {
-            return other;
-        }
-    }
-    None
 }

@@ -1,57 +1,44 @@
 //! Heads and their verdicts at the limits, each with the answer that the standard or docs/DECISIONS.md gives.
-use crate::checks::{check, check_none};
-use crate::requests::asked::{Question, Table, Told, first_other, is_same, number};
+use crate::checks::{self, Row, all_hold};
+use crate::requests::asked::{Question, Table};
 use crate::requests::texts::repeated;
+use crate::texts::{add_code, add_number, is_same};
 use s3_http_heads::{Found, Head, find_head, framing, skipped};
 use std::alloc::Global;
 
 // A number of letters, the bytes behind them, and what is found in both.
-type Bytes = (usize, &'static [u8], Found);
+struct Bytes(usize, &'static [u8], Found);
 
 static FOUND: [Bytes; 8] = [
-    (16_383, b"", Found::NeedMore),
-    (16_384, b"", Found::TooLarge),
-    (16_380, b"\r\n\r\nrest", Found::Head { len: 16_384 }),
-    (16_381, b"\r\n\r\n", Found::TooLarge),
-    (
+    Bytes(16_383, b"", Found::NeedMore),
+    Bytes(16_384, b"", Found::TooLarge),
+    Bytes(16_380, b"\r\n\r\nrest", Found::Head { len: 16_384 }),
+    Bytes(16_381, b"\r\n\r\n", Found::TooLarge),
+    Bytes(
         0,
         b"\r\n\r\nGET / HTTP/1.1\r\n\r\n",
         Found::Head { len: 18 },
     ),
-    (0, b"\r\n\r", Found::NeedMore),
-    (0, b"a\r\r\n\r\r\n\r\n", Found::Head { len: 9 }),
-    (0, b"a\r\n\n\r\n", Found::NeedMore),
+    Bytes(0, b"\r\n\r", Found::NeedMore),
+    Bytes(0, b"a\r\r\n\r\r\n\r\n", Found::Head { len: 9 }),
+    Bytes(0, b"a\r\n\n\r\n", Found::NeedMore),
 ];
 
-fn is_found(alloc: Global, bytes: &Bytes) -> bool {
-    match repeated(alloc, b"", b"A", bytes.0, bytes.1) {
-        Ok(text) => find_head(&text) == bytes.2,
-        Err(_) => false,
-    }
-}
-
-fn are_found(alloc: Global) -> bool {
-    for bytes in &FOUND {
-        if !is_found(alloc, bytes) {
-            return false;
+impl Row for Bytes {
+    fn holds(&self, alloc: Global) -> bool {
+        match repeated(alloc, b"", b"A", self.0, self.1) {
+            Ok(text) => find_head(&text) == self.2,
+            Err(_) => false,
         }
     }
-    true
 }
 
-// Leading pairs are skipped.
-#[test]
-fn heads_are_found(rt: HostRuntime) {
-    check(
-        &rt,
-        are_found(rt.alloc()) && skipped(b"\r\n\r\nGET / HTTP/1.1\r\n\r\n") == 4,
-        "lines before a head",
-    );
-}
-
-/// The length of the head's body, where a body may have 100 bytes.
-pub(crate) fn length_text(alloc: Global, head: &Head) -> Told {
-    number(alloc, framing(head, 100)?)
+/// Adds the length of the head's body, where a body may have 100 bytes.
+pub(crate) fn add_length(out: &mut Vec<u8>, head: &Head) {
+    match framing(head, 100) {
+        Ok(length) => add_number(out, length),
+        Err(code) => add_code(out, code),
+    }
 }
 
 // Whether the first line is cut into its parts.
@@ -165,8 +152,10 @@ static TABLES: [Table; 6] = [
     EXPECTATIONS,
 ];
 
-#[test]
-fn what_heads_say(rt: HostRuntime) {
-    let other = first_other(rt.alloc(), &TABLES);
-    check_none(&rt, other);
+/// The first row that doesn't hold. Leading pairs are skipped.
+pub(crate) fn first_other(alloc: Global) -> Option<&'static str> {
+    if !all_hold(alloc, &FOUND) || skipped(b"\r\n\r\nGET / HTTP/1.1\r\n\r\n") != 4 {
+        return Some("heads that are found");
+    }
+    checks::first_other(alloc, &TABLES)
 }

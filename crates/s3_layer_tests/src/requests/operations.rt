@@ -1,6 +1,6 @@
 //! How the operations of S3 are spelled in tests: what is planned, what is asked of a store, and what comes of it. An
 //! operation has its lines here and its rows in tables; no other test names it.
-use crate::requests::asked::{Told, is_same, number, word};
+use crate::texts::{add, add_code, add_number, add_word, is_same};
 use s3_bodies::{Body, Payload};
 use s3_calendar::Moment;
 use s3_conditions::{ByteRange, Conditions, Selection};
@@ -9,9 +9,10 @@ use s3_machine::{CopyRange, Found, ObjectCopy, Outcome, Source};
 use s3_names::{Tag, UploadId, VersionId};
 use s3_prefixes::ListVersion;
 use s3_requests::{BucketCommand, Command, KeyCommand, Plan, UploadCommand, WriteCondition};
-use s3_terms::{Code, Dialect};
+use s3_terms::{Code, Dialect, NoMemory};
 use s3_versions::{Data, Versioning, VersioningStatus};
 use std::alloc::Global;
+use std::mem::drop;
 
 // The list of this version.
 fn list_of(version: ListVersion) -> &'static str {
@@ -85,23 +86,23 @@ pub(crate) fn operation(plan: &Plan) -> &'static str {
     }
 }
 
-// An operation on a bucket.
-fn with_bucket(alloc: Global, operation: &[u8], bucket: &[u8]) -> Told {
-    Ok([operation, b" ", bucket].concat(alloc)?)
-}
-
-// An operation on a key in a bucket.
-fn with_key(alloc: Global, operation: &[u8], bucket: &[u8], key: &[u8]) -> Told {
-    Ok([operation, b" ", bucket, b" ", key].concat(alloc)?)
-}
-
-// That text, and the id of the version that is asked for, if one is.
-fn with_version(mut text: Vec<u8>, version: Option<VersionId>) -> Told {
+// Adds the id of a version behind a space, if there is one.
+fn add_version(out: &mut Vec<u8>, version: Option<VersionId>) {
     if let Some(id) = version {
-        text.extend_from_slice(b" ")?;
-        text.extend_from_slice(id.text().as_bytes())?;
+        add_word(out, id.text().as_bytes());
     }
-    Ok(text)
+}
+
+// Adds a number behind a space.
+fn add_count(out: &mut Vec<u8>, number: u64) {
+    add(out, b" ");
+    add_number(out, number);
+}
+
+// Adds a bucket and a key, each behind a space.
+fn add_place(out: &mut Vec<u8>, bucket: &[u8], key: &[u8]) {
+    add_word(out, bucket);
+    add_word(out, key);
 }
 
 // The range that is asked for.
@@ -119,114 +120,90 @@ fn word_if(is_there: bool, word: &'static [u8]) -> &'static [u8] {
     if is_there { word } else { b"" }
 }
 
-// That text, and what a read asks of the version.
-fn with_conditions(alloc: Global, text: Vec<u8>, asked: &Conditions) -> Told {
-    let words = [
-        text.as_slice(),
-        word_if(asked.if_match.is_some(), b" match"),
-        word_if(asked.if_none_match.is_some(), b" none-match"),
-        word_if(asked.modified_since.is_some(), b" modified"),
+// Adds what a read asks of the version.
+fn add_conditions(out: &mut Vec<u8>, asked: &Conditions) {
+    add(out, word_if(asked.if_match.is_some(), b" match"));
+    add(out, word_if(asked.if_none_match.is_some(), b" none-match"));
+    add(out, word_if(asked.modified_since.is_some(), b" modified"));
+    add(
+        out,
         word_if(asked.unmodified_since.is_some(), b" unmodified"),
-        range_word(asked.range),
-    ];
-    Ok(words.concat(alloc)?)
+    );
+    add(out, range_word(asked.range));
 }
 
-// That text, and what is copied.
-fn with_source(alloc: Global, text: Vec<u8>, source: &Source) -> Told {
-    let from = with_key(
-        alloc,
-        b" from",
-        source.bucket.as_bytes(),
-        source.key.as_bytes(),
-    )?;
-    let from = with_version(from, source.version)?;
-    with_conditions(
-        alloc,
-        [text.as_slice(), &from].concat(alloc)?,
-        &source.conditions,
-    )
+// Adds what is copied.
+fn add_source(out: &mut Vec<u8>, source: &Source) {
+    add(out, b" from");
+    add_place(out, source.bucket.as_bytes(), source.key.as_bytes());
+    add_version(out, source.version);
+    add_conditions(out, &source.conditions);
 }
 
-// That text, and which bytes of the source are copied, if they are named.
-fn with_range(alloc: Global, text: Vec<u8>, range: Option<CopyRange>) -> Told {
-    match range {
-        None => Ok(text),
-        Some(CopyRange { first, last }) => {
-            let text = with_number(alloc, &text, first)?;
-            with_number(alloc, &text, last)
-        }
+// Adds which bytes of the source are copied, if they are named.
+fn add_range(out: &mut Vec<u8>, range: Option<CopyRange>) {
+    if let Some(CopyRange { first, last }) = range {
+        add_count(out, first);
+        add_count(out, last);
     }
 }
 
-// That text, and what a write asks of the object that its key has.
-fn with_condition(alloc: Global, text: &[u8], condition: &WriteCondition) -> Told {
-    let word = match condition {
-        WriteCondition::Unconditional => b"".as_slice(),
+// What a write asks of the object that its key has.
+fn condition_word(condition: &WriteCondition) -> &'static [u8] {
+    match condition {
+        WriteCondition::Unconditional => b"",
         WriteCondition::IfAbsent => b" absent",
         WriteCondition::IfMatch(_) => b" match",
-    };
-    Ok([text, word].concat(alloc)?)
-}
-
-// That text, what is copied, and whether the copy is described anew.
-fn with_copy(alloc: Global, text: Vec<u8>, asked: &ObjectCopy) -> Told {
-    let mut told = with_source(alloc, text, &asked.source)?;
-    told.extend_from_slice(word_if(asked.description.is_some(), b" described"))?;
-    Ok(told)
-}
-
-// That text, and what is asked beside the version.
-fn with_asked(alloc: Global, text: Vec<u8>, asked: &KeyCommand) -> Told {
-    match asked {
-        KeyCommand::Copy(asked) => with_copy(alloc, text, asked),
-        KeyCommand::Read(asked) => with_conditions(alloc, text, &asked.conditions),
-        KeyCommand::DeleteMatching { .. } => joined(alloc, &text, b" match"),
-        _ => Ok(text),
     }
 }
 
-// That text, and a number.
-fn with_number(alloc: Global, text: &[u8], behind: u64) -> Told {
-    Ok([text, b" ", &number(alloc, behind)?].concat(alloc)?)
+// Adds what is copied, and whether the copy is described anew.
+fn add_copy(out: &mut Vec<u8>, asked: &ObjectCopy) {
+    add_source(out, &asked.source);
+    add(out, word_if(asked.description.is_some(), b" described"));
 }
 
-// That text, and what is asked of an upload: the number of a part and its source, or behind which number how many are listed.
-fn with_part(alloc: Global, text: Vec<u8>, asked: &UploadCommand) -> Told {
+// Adds what is asked beside the version.
+fn add_asked(out: &mut Vec<u8>, asked: &KeyCommand) {
+    match asked {
+        KeyCommand::Copy(asked) => add_copy(out, asked),
+        KeyCommand::Read(asked) => add_conditions(out, &asked.conditions),
+        KeyCommand::DeleteMatching { .. } => add(out, b" match"),
+        _ => {}
+    }
+}
+
+// Adds what is asked of an upload: the number of a part and its source, or behind which number how many are listed.
+fn add_part(out: &mut Vec<u8>, asked: &UploadCommand) {
     match asked {
         UploadCommand::CopyPart { number, copy } => {
-            let text = with_number(alloc, &text, u64::from(number.get()))?;
-            with_range(alloc, with_source(alloc, text, &copy.source)?, copy.range)
+            add_count(out, u64::from(number.get()));
+            add_source(out, &copy.source);
+            add_range(out, copy.range);
         }
         UploadCommand::ListParts(asked) => {
-            let text = with_number(alloc, &text, asked.marker)?;
-            with_number(alloc, &text, u64::from(asked.max_parts))
+            add_count(out, asked.marker);
+            add_count(out, u64::from(asked.max_parts));
         }
-        _ => Ok(text),
+        _ => {}
     }
 }
 
-// An operation on the upload of this id to a key in a bucket.
-fn with_upload(alloc: Global, operation: &[u8], bucket: &[u8], key: &[u8], id: UploadId) -> Told {
-    let text = with_key(alloc, operation, bucket, key)?;
-    Ok([text.as_slice(), b" ", id.text().as_bytes()].concat(alloc)?)
+// Adds an upload of this id to a key in a bucket.
+fn add_upload(out: &mut Vec<u8>, bucket: &[u8], key: &[u8], id: UploadId) {
+    add_place(out, bucket, key);
+    add_word(out, id.text().as_bytes());
 }
 
-// What is asked of a key in a bucket.
-fn key_text_of(alloc: Global, bucket: &[u8], key: &[u8], asked: &KeyCommand) -> Told {
-    let (operation, version) = key_operation(asked);
-    let text = with_key(alloc, operation.as_bytes(), bucket, key)?;
-    with_asked(alloc, with_version(text, version)?, asked)
-}
-
-// What is asked without a body.
-fn ready_text(alloc: Global, command: &Command) -> Told {
-    let operation = command_operation(command).as_bytes();
+// Adds what is asked without a body, behind the operation.
+fn add_ready(out: &mut Vec<u8>, command: &Command) {
     match command {
-        Command::ListBuckets => Ok(Vec::from_slice(alloc, operation)?),
-        Command::Bucket { name, .. } => with_bucket(alloc, operation, name.as_bytes()),
+        Command::ListBuckets => {}
+        Command::Bucket { name, .. } => add_word(out, name.as_bytes()),
         Command::Key { bucket, key, asked } => {
-            key_text_of(alloc, bucket.as_bytes(), key.as_bytes(), asked)
+            add_place(out, bucket.as_bytes(), key.as_bytes());
+            add_version(out, key_operation(asked).1);
+            add_asked(out, asked);
         }
         Command::Upload {
             bucket,
@@ -234,29 +211,29 @@ fn ready_text(alloc: Global, command: &Command) -> Told {
             id,
             asked,
         } => {
-            let text = with_upload(alloc, operation, bucket.as_bytes(), key.as_bytes(), *id)?;
-            with_part(alloc, text, asked)
+            add_upload(out, bucket.as_bytes(), key.as_bytes(), *id);
+            add_part(out, asked);
         }
-        Command::DeleteObjects { bucket, .. } => with_bucket(alloc, operation, bucket.as_bytes()),
+        Command::DeleteObjects { bucket, .. } => add_word(out, bucket.as_bytes()),
     }
 }
 
-/// The operation of a plan, its bucket, its key, the id of the version or of the upload that is asked for, and what is asked
+/// Adds the operation of a plan, its bucket, its key, the id of the version or of the upload that is asked for, and what is asked
 /// of it.
-pub(crate) fn plan_text(alloc: Global, plan: &Plan) -> Told {
-    let operation = operation(plan).as_bytes();
+pub(crate) fn add_operation(out: &mut Vec<u8>, plan: &Plan) {
+    add(out, operation(plan).as_bytes());
     match plan {
-        Plan::Ready(command) => ready_text(alloc, command),
-        Plan::CreateBucket { name, .. } => with_bucket(alloc, operation, name.as_bytes()),
-        Plan::PutVersioning { name, .. } => with_bucket(alloc, operation, name.as_bytes()),
+        Plan::Ready(command) => add_ready(out, command),
+        Plan::CreateBucket { name, .. } => add_word(out, name.as_bytes()),
+        Plan::PutVersioning { name, .. } => add_word(out, name.as_bytes()),
         Plan::Put {
             bucket,
             key,
             condition,
             ..
         } => {
-            let text = with_key(alloc, operation, bucket.as_bytes(), key.as_bytes())?;
-            with_condition(alloc, &text, condition)
+            add_place(out, bucket.as_bytes(), key.as_bytes());
+            add(out, condition_word(condition));
         }
         Plan::PutPart {
             bucket,
@@ -264,8 +241,8 @@ pub(crate) fn plan_text(alloc: Global, plan: &Plan) -> Told {
             id,
             number,
         } => {
-            let text = with_upload(alloc, operation, bucket.as_bytes(), key.as_bytes(), *id)?;
-            with_number(alloc, &text, u64::from(number.get()))
+            add_upload(out, bucket.as_bytes(), key.as_bytes(), *id);
+            add_count(out, u64::from(number.get()));
         }
         Plan::Complete {
             bucket,
@@ -274,10 +251,10 @@ pub(crate) fn plan_text(alloc: Global, plan: &Plan) -> Told {
             condition,
             ..
         } => {
-            let text = with_upload(alloc, operation, bucket.as_bytes(), key.as_bytes(), *id)?;
-            with_condition(alloc, &text, condition)
+            add_upload(out, bucket.as_bytes(), key.as_bytes(), *id);
+            add(out, condition_word(condition));
         }
-        Plan::DeleteObjects { bucket } => with_bucket(alloc, operation, bucket.as_bytes()),
+        Plan::DeleteObjects { bucket } => add_word(out, bucket.as_bytes()),
     }
 }
 
@@ -346,11 +323,12 @@ pub(crate) fn command_text(command: &Command) -> &'static str {
     }
 }
 
-// The word, the id that is shown, or `-` where none is, and what stands behind it.
-fn shown_text(alloc: Global, word: &[u8], shown: Option<VersionId>, behind: &[u8]) -> Told {
+// Adds the word, and the id that is shown, or `-` where none is.
+fn add_shown(out: &mut Vec<u8>, word: &[u8], shown: Option<VersionId>) {
+    add(out, word);
     match shown {
-        Some(id) => Ok([word, id.text().as_bytes(), behind].concat(alloc)?),
-        None => Ok([word, b"-", behind].concat(alloc)?),
+        Some(id) => add(out, id.text().as_bytes()),
+        None => add(out, b"-"),
     }
 }
 
@@ -363,143 +341,168 @@ fn is_described(stored: &Data<Body>) -> bool {
         && is_same(entries[0].value(), b"red")
 }
 
-// The word, the id, the seconds and the tag of a version that was read, and what stands behind them.
-fn found_text(alloc: Global, word: &[u8], found: &Found<Body>, behind: &[u8]) -> Told {
-    if !is_described(&found.stored) {
-        return Err(Code::InvalidRequest);
-    }
-    let seconds = number(alloc, found.moment.seconds())?;
-    let tag = found.stored.tag.text();
-    let behind = [
-        b" ".as_slice(),
-        &seconds,
-        b" ",
-        tag.as_bytes(),
-        b" ",
-        behind,
-    ]
-    .concat(alloc)?;
-    shown_text(alloc, word, found.shown, &behind)
-}
-
-// How a selection that isn't whole is spelled: `first-last`, or a word.
-fn selection_text(alloc: Global, selection: Selection) -> Told {
+// Adds how a selection is spelled: the bytes, `first-last`, or a word.
+fn add_selection(alloc: Global, out: &mut Vec<u8>, body: &Body, selection: Selection) {
     match selection {
-        Selection::Whole => word(alloc, "whole"),
+        Selection::Whole => add_body(alloc, out, body),
         Selection::Part { first, last } => {
-            Ok([
-                number(alloc, first)?.as_slice(),
-                b"-",
-                &number(alloc, last)?,
-            ]
-            .concat(alloc)?)
+            add_number(out, first);
+            add(out, b"-");
+            add_number(out, last);
         }
-        Selection::Unchanged => word(alloc, "unchanged"),
-        Selection::Outside => word(alloc, "outside"),
+        Selection::Unchanged => add(out, b"unchanged"),
+        Selection::Outside => add(out, b"outside"),
     }
 }
 
-fn got_text(alloc: Global, found: &Found<Body>, selection: Selection) -> Told {
-    if found.stored.size != found.stored.body.size() {
-        return Err(Code::InvalidRequest);
+// Adds the bytes of a body.
+fn add_body(alloc: Global, out: &mut Vec<u8>, body: &Body) {
+    match body.to_vec(alloc) {
+        Ok(bytes) => add(out, &bytes),
+        Err(NoMemory) => add_code(out, Code::InternalError),
     }
-    let behind = match selection {
-        Selection::Whole => found.stored.body.to_vec(alloc)?,
-        _ => selection_text(alloc, selection)?,
-    };
-    found_text(alloc, b"got ", found, &behind)
 }
 
-fn stored_text(alloc: Global, tag: &Tag, shown: Option<VersionId>) -> Told {
-    let behind = [b" ".as_slice(), tag.text().as_bytes()].concat(alloc)?;
-    shown_text(alloc, b"stored ", shown, &behind)
+// Adds the id, the seconds and the tag of a version that was read, and what of it is shown.
+fn add_got(alloc: Global, out: &mut Vec<u8>, found: &Found<Body>, selection: Selection) {
+    let stored = &found.stored;
+    if !is_described(stored) || stored.size != stored.body.size() {
+        add_code(out, Code::InvalidRequest);
+    }
+    add_shown(out, b"got ", found.shown);
+    add_count(out, found.moment.seconds());
+    add_word(out, stored.tag.text().as_bytes());
+    add(out, b" ");
+    add_selection(alloc, out, &stored.body, selection);
 }
 
-fn copied_text(alloc: Global, tag: &Tag, moment: Moment, shown: Option<VersionId>) -> Told {
-    let seconds = number(alloc, moment.seconds())?;
-    let behind = [b" ".as_slice(), &seconds, b" ", tag.text().as_bytes()].concat(alloc)?;
-    shown_text(alloc, b"copied ", shown, &behind)
+// Adds the word, the id that is shown, the seconds and the tag of a copy.
+fn add_copied(out: &mut Vec<u8>, word: &[u8], shown: Option<VersionId>, moment: Moment, tag: &Tag) {
+    add_shown(out, word, shown);
+    add_count(out, moment.seconds());
+    add_word(out, tag.text().as_bytes());
 }
 
-fn document_text(alloc: Global, document: Document) -> Told {
-    Ok(document.into_body(Dialect::Json).to_vec(alloc)?)
-}
-
-// The tag and the text of a document.
-fn with_document(alloc: Global, tag: &Tag, text: &[u8]) -> Told {
-    Ok([b" ".as_slice(), tag.text().as_bytes(), b" ", text].concat(alloc)?)
-}
-
-// What a completion stored, and its document.
-fn completed_text(alloc: Global, document: Document, tag: &Tag, shown: Option<VersionId>) -> Told {
-    let behind = with_document(alloc, tag, &document_text(alloc, document)?)?;
-    shown_text(alloc, b"completed ", shown, &behind)
+// Adds the text of a document.
+fn add_document(alloc: Global, out: &mut Vec<u8>, document: Document) {
+    let body = document.into_body(Dialect::Json);
+    add_body(alloc, out, &body);
+    drop(body);
 }
 
 fn marker(is_delete_marker: bool) -> &'static [u8] {
-    if is_delete_marker { b" marker" } else { b"" }
+    word_if(is_delete_marker, b" marker")
 }
 
-fn name_of(versioning: Versioning) -> &'static str {
+fn name_of(versioning: Versioning) -> &'static [u8] {
     match versioning {
-        Versioning::Unversioned => "Unversioned",
-        Versioning::Enabled => "Enabled",
-        Versioning::Suspended => "Suspended",
+        Versioning::Unversioned => b"Unversioned",
+        Versioning::Enabled => b"Enabled",
+        Versioning::Suspended => b"Suspended",
     }
 }
 
-// Two words with nothing between them.
-fn joined(alloc: Global, word: &[u8], behind: &[u8]) -> Told {
-    Ok([word, behind].concat(alloc)?)
+// Adds a word, and a name behind it.
+fn add_named(out: &mut Vec<u8>, word: &[u8], name: &[u8]) {
+    add(out, word);
+    add(out, name);
 }
 
-fn part_text(alloc: Global, tag: &Tag) -> Told {
-    joined(alloc, b"part ", tag.text().as_bytes())
-}
-
-fn part_copied_text(alloc: Global, tag: &Tag, moment: Moment, source: Option<VersionId>) -> Told {
-    let seconds = number(alloc, moment.seconds())?;
-    let behind = [b" ".as_slice(), &seconds, b" ", tag.text().as_bytes()].concat(alloc)?;
-    shown_text(alloc, b"part copied ", source, &behind)
-}
-
-/// What came of a command.
-pub(crate) fn outcome_text(alloc: Global, outcome: Outcome) -> Told {
+// Adds what came of a write of an object or of a part.
+fn add_write(out: &mut Vec<u8>, outcome: &Outcome) {
     match outcome {
-        Outcome::Told { document } => document_text(alloc, document),
-        Outcome::BucketMade { name } => joined(alloc, b"made ", name.as_bytes()),
-        Outcome::BucketFound { region } => joined(alloc, b"found ", region.as_bytes()),
-        Outcome::BucketDropped => word(alloc, "dropped"),
-        Outcome::VersioningSet => word(alloc, "set"),
-        Outcome::BucketVersioning { versioning } => word(alloc, name_of(versioning)),
-        Outcome::Put { tag, shown } => stored_text(alloc, &tag, shown),
-        Outcome::Copied { tag, moment, shown } => copied_text(alloc, &tag, moment, shown),
-        Outcome::PartPut { tag } => part_text(alloc, &tag),
+        Outcome::Put { tag, shown } => {
+            add_shown(out, b"stored ", *shown);
+            add_word(out, tag.text().as_bytes());
+        }
+        Outcome::Copied { tag, moment, shown } => add_copied(out, b"copied ", *shown, *moment, tag),
+        Outcome::PartPut { tag } => add_named(out, b"part ", tag.text().as_bytes()),
         Outcome::PartCopied {
             tag,
             moment,
             source,
-        } => part_copied_text(alloc, &tag, moment, source),
-        Outcome::Completed {
-            document,
-            tag,
-            shown,
-        } => completed_text(alloc, document, &tag, shown),
-        Outcome::UploadDropped => word(alloc, "upload dropped"),
+        } => add_copied(out, b"part copied ", *source, *moment, tag),
+        _ => {}
+    }
+}
+
+// Adds what came of a command on a bucket.
+fn add_of_bucket(out: &mut Vec<u8>, outcome: &Outcome) {
+    match outcome {
+        Outcome::BucketMade { name } => add_named(out, b"made ", name.as_bytes()),
+        Outcome::BucketFound { region } => add_named(out, b"found ", region.as_bytes()),
+        Outcome::BucketDropped => add(out, b"dropped"),
+        Outcome::VersioningSet => add(out, b"set"),
+        Outcome::BucketVersioning { versioning } => add(out, name_of(*versioning)),
+        _ => {}
+    }
+}
+
+// Adds what came of a read of an object.
+fn add_read(alloc: Global, out: &mut Vec<u8>, outcome: &Outcome) {
+    match outcome {
         Outcome::Got {
             found,
             selection,
             ..
-        } => got_text(alloc, &found, selection),
-        Outcome::NoTags { shown } => shown_text(alloc, b"no tags ", shown, b""),
-        Outcome::OutOfRange { size } => joined(alloc, b"out of range ", &number(alloc, size)?),
+        } => add_got(alloc, out, found, *selection),
+        Outcome::NoTags { shown } => add_shown(out, b"no tags ", *shown),
+        Outcome::OutOfRange { size } => {
+            add(out, b"out of range ");
+            add_number(out, *size);
+        }
+        _ => {}
+    }
+}
+
+// Adds what came of a command that tells no document.
+fn add_untold(alloc: Global, out: &mut Vec<u8>, outcome: &Outcome) {
+    match outcome {
+        Outcome::Told { .. } | Outcome::Completed { .. } => {}
+        Outcome::BucketMade { .. }
+        | Outcome::BucketFound { .. }
+        | Outcome::BucketDropped
+        | Outcome::VersioningSet
+        | Outcome::BucketVersioning { .. } => add_of_bucket(out, outcome),
+        Outcome::Put { .. }
+        | Outcome::Copied { .. }
+        | Outcome::PartPut { .. }
+        | Outcome::PartCopied { .. } => add_write(out, outcome),
+        Outcome::UploadDropped => add(out, b"upload dropped"),
+        Outcome::Got { .. } | Outcome::NoTags { .. } | Outcome::OutOfRange { .. } => {
+            add_read(alloc, out, outcome)
+        }
         Outcome::Deleted {
             shown,
             is_delete_marker,
-        } => shown_text(alloc, b"deleted ", shown, marker(is_delete_marker)),
+        } => {
+            add_shown(out, b"deleted ", *shown);
+            add(out, marker(*is_delete_marker));
+        }
         Outcome::Refused {
             code,
             is_delete_marker,
-        } => joined(alloc, code.name().as_bytes(), marker(is_delete_marker)),
+        } => add_named(out, code.name().as_bytes(), marker(*is_delete_marker)),
+    }
+}
+
+/// Adds what came of a command.
+pub(crate) fn add_outcome(alloc: Global, out: &mut Vec<u8>, outcome: Outcome) {
+    match outcome {
+        Outcome::Told { document } => add_document(alloc, out, document),
+        Outcome::Completed {
+            document,
+            tag,
+            shown,
+        } => {
+            add_shown(out, b"completed ", shown);
+            add_word(out, tag.text().as_bytes());
+            add(out, b" ");
+            add_document(alloc, out, document);
+        }
+        other => {
+            add_untold(alloc, out, &other);
+            drop(other);
+        }
     }
 }

@@ -1,13 +1,15 @@
 //! The texts of plans: the operation, the bucket and the key, the version or the upload, and what a put, or the beginning of
 //! an upload, says of its object.
-use crate::requests::asked::{Told, word};
-use crate::requests::operations::{operation, plan_text};
-use crate::requests::targets::push_line;
+use crate::requests::asked::Question;
+use crate::requests::operations::{add_operation, operation};
+use crate::requests::targets::add_line;
+use crate::texts::{add, add_code};
 use s3_http_heads::Head;
 use s3_requests::{Command, Description, KeyCommand, Plan, route};
 use s3_terms::{Code, Dialect};
 use s3_test_servers::config_in;
 use std::alloc::Global;
+use std::mem::drop;
 
 /// What the head asks of a server in `us-east-1` whose documents are of this dialect.
 pub(crate) fn routed(alloc: Global, dialect: Dialect, head: &Head) -> Result<Plan, Code> {
@@ -17,49 +19,50 @@ pub(crate) fn routed(alloc: Global, dialect: Dialect, head: &Head) -> Result<Pla
     }
 }
 
-/// What the head asks for.
-pub(crate) fn route_text(alloc: Global, head: &Head) -> Told {
-    let plan = routed(alloc, Dialect::Json, head)?;
-    let text = plan_text(alloc, &plan);
-    drop(plan);
-    text
-}
-
-/// The operation that the head asks for.
-pub(crate) fn operation_text(alloc: Global, head: &Head) -> Told {
-    let plan = routed(alloc, Dialect::Json, head)?;
-    let operation = operation(&plan);
-    drop(plan);
-    word(alloc, operation)
-}
-
-// The media type, and the names of metadata with their values.
-fn object_text(alloc: Global, said: &Description) -> Told {
-    let mut text = Vec::from_slice(alloc, said.content_type.as_bytes())?;
+// Adds the media type, and the names of metadata with their values.
+fn add_object(out: &mut Vec<u8>, said: &Description) {
+    add(out, said.content_type.as_bytes());
     for entry in said.metadata.entries() {
-        push_line(&mut text, entry.name(), entry.value())?;
+        add_line(out, entry.name(), entry.value());
     }
-    Ok(text)
 }
 
-// What a put, or the beginning of an upload, says of the object.
-fn put_text(alloc: Global, plan: &Plan) -> Told {
+// Adds what a put, or the beginning of an upload, says of the object.
+fn add_description(out: &mut Vec<u8>, plan: &Plan) {
     match plan {
-        Plan::Put { said, .. } => object_text(alloc, said),
+        Plan::Put { said, .. } => add_object(out, said),
         Plan::Ready(
             Command::Key {
                 asked: KeyCommand::Begin(said),
                 ..
             },
-        ) => object_text(alloc, said),
-        _ => Err(Code::InvalidRequest),
+        ) => add_object(out, said),
+        _ => add_code(out, Code::InvalidRequest),
     }
 }
 
-/// What the head, that of a put or of the beginning of an upload, says of the object where documents are of this dialect.
-pub(crate) fn description_text(alloc: Global, dialect: Dialect, head: &Head) -> Told {
-    let plan = routed(alloc, dialect, head)?;
-    let text = put_text(alloc, &plan);
-    drop(plan);
-    text
+// Adds what a plan tells: what is asked for, the operation alone, or what is said of an object.
+fn add_told_of(out: &mut Vec<u8>, plan: &Plan, question: &Question) {
+    match question {
+        Question::Route => add_operation(out, plan),
+        Question::Operation => add(out, operation(plan).as_bytes()),
+        _ => add_description(out, plan),
+    }
+}
+
+/// Adds what the head asks for, or says of an object, where documents are of this dialect.
+pub(crate) fn add_plan(
+    alloc: Global,
+    out: &mut Vec<u8>,
+    dialect: Dialect,
+    head: &Head,
+    question: &Question,
+) {
+    match routed(alloc, dialect, head) {
+        Ok(plan) => {
+            add_told_of(out, &plan, question);
+            drop(plan);
+        }
+        Err(code) => add_code(out, code),
+    }
 }

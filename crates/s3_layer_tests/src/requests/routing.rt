@@ -1,6 +1,6 @@
 //! Which operation a head asks for, and which refusal it gets where it asks for none.
-use crate::checks::{check, check_none};
-use crate::requests::asked::{Question, Table, first_other, is_so};
+use crate::checks;
+use crate::requests::asked::{Question, Table, is_so};
 use std::alloc::Global;
 
 // A table of the requests without header lines.
@@ -244,12 +244,6 @@ static OPERATIONS: [Table; 7] = [
     SUB_RESOURCES,
 ];
 
-#[test]
-fn the_table_of_operations(rt: HostRuntime) {
-    let other = first_other(rt.alloc(), &OPERATIONS);
-    check_none(&rt, other);
-}
-
 // A key of 1,024 bytes.
 const LONG_KEY: Table = Table {
     question: Question::Operation,
@@ -351,12 +345,6 @@ const ABSENCE: Table = Table {
 };
 
 static LIMITS: [Table; 5] = [LONG_KEY, LONG_KEYS, LONG_LINES, CONDITIONS, ABSENCE];
-
-#[test]
-fn limits(rt: HostRuntime) {
-    let other = first_other(rt.alloc(), &LIMITS);
-    check_none(&rt, other);
-}
 
 // A copy source is for puts alone.
 const COPIES: Table = Table {
@@ -483,9 +471,12 @@ fn is_kept(alloc: Global) -> bool {
     is_so(alloc, &Question::Description, BEYOND_ASCII, wanted)
 }
 
-#[test]
-fn descriptions(rt: HostRuntime) {
-    let other = first_other(rt.alloc(), &SAID);
-    check_none(&rt, other);
-    check(&rt, is_kept(rt.alloc()), "what is kept of a put");
+/// The first row that doesn't hold.
+pub(crate) fn first_other(alloc: Global) -> Option<&'static str> {
+    if !is_kept(alloc) {
+        return Some("what is kept of a put");
+    }
+    checks::first_other(alloc, &OPERATIONS)
+        .or(checks::first_other(alloc, &LIMITS))
+        .or(checks::first_other(alloc, &SAID))
 }

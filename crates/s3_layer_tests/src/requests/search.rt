@@ -1,5 +1,5 @@
 //! Heads that arrive in pieces, cut everywhere.
-use crate::checks::check;
+use crate::checks::{Row, all_hold};
 use crate::requests::texts::repeated;
 use s3_http_heads::{Found, HeadSearch};
 use std::alloc::Global;
@@ -30,51 +30,55 @@ fn is_taken(alloc: Global, bytes: &[u8], taken: &Taken, at: usize, size: usize) 
 }
 
 // Whether it is taken of them wherever they are cut in two, and byte by byte.
-fn is_taken_in_pieces(alloc: Global, bytes: &[u8], taken: &Taken) -> bool {
-    for at in 0..bytes.len() {
-        if !is_taken(alloc, bytes, taken, at, bytes.len()) {
-            return false;
+impl Row for Arrival {
+    fn holds(&self, alloc: Global) -> bool {
+        for at in 0..self.0.len() {
+            if !is_taken(alloc, self.0, &self.1, at, self.0.len()) {
+                return false;
+            }
         }
+        is_taken(alloc, self.0, &self.1, 0, 1)
     }
-    is_taken(alloc, bytes, taken, 0, 1)
 }
 
-static ARRIVALS: [(&[u8], Taken); 15] = [
-    (b"", (0, Found::NeedMore, b"")),
-    (b"\r\n\r\n", (4, Found::NeedMore, b"")),
-    (b"\r\n\r", (3, Found::NeedMore, b"\r")),
-    (b"a\r\n\n\r\n", (6, Found::NeedMore, b"a\r\n\n\r\n")),
-    (
+struct Arrival(&'static [u8], Taken<'static>);
+
+static ARRIVALS: [Arrival; 15] = [
+    Arrival(b"", (0, Found::NeedMore, b"")),
+    Arrival(b"\r\n\r\n", (4, Found::NeedMore, b"")),
+    Arrival(b"\r\n\r", (3, Found::NeedMore, b"\r")),
+    Arrival(b"a\r\n\n\r\n", (6, Found::NeedMore, b"a\r\n\n\r\n")),
+    Arrival(
         b"GET / HTTP/1.1\r\n\r",
         (17, Found::NeedMore, b"GET / HTTP/1.1\r\n\r"),
     ),
-    (
+    Arrival(
         b"GET / HTTP/1.1\r\n\r\n\r\nGET",
         (18, Found::Head { len: 18 }, b"GET / HTTP/1.1\r\n\r\n"),
     ),
-    (
+    Arrival(
         b"\r\n\r\nGET / HTTP/1.1\r\n\r\nbody",
         (22, Found::Head { len: 18 }, b"GET / HTTP/1.1\r\n\r\n"),
     ),
-    (
+    Arrival(
         b"\r\n\n\r\n\r\n",
         (7, Found::Head { len: 5 }, b"\n\r\n\r\n"),
     ),
-    (b"\r\r\n\r\n", (5, Found::Head { len: 5 }, b"\r\r\n\r\n")),
-    (
+    Arrival(b"\r\r\n\r\n", (5, Found::Head { len: 5 }, b"\r\r\n\r\n")),
+    Arrival(
         b"\rX\r\n\r\n\r\n\r\n",
         (6, Found::Head { len: 6 }, b"\rX\r\n\r\n"),
     ),
-    (
+    Arrival(
         b"a\r\r\n\r\r\n\r\nb",
         (9, Found::Head { len: 9 }, b"a\r\r\n\r\r\n\r\n"),
     ),
-    (
+    Arrival(
         b"a\r\n\rb\r\n\r\n",
         (9, Found::Head { len: 9 }, b"a\r\n\rb\r\n\r\n"),
     ),
     // Head texts of several lines, and one that is not whole.
-    (
+    Arrival(
         b"PUT /bucket/key HTTP/1.1\r\nHost: example.com\r\nContent-Length: 4\r\n\r\nbody",
         (
             66,
@@ -82,7 +86,7 @@ static ARRIVALS: [(&[u8], Taken); 15] = [
             b"PUT /bucket/key HTTP/1.1\r\nHost: example.com\r\nContent-Length: 4\r\n\r\n",
         ),
     ),
-    (
+    Arrival(
         b"\r\n\r\nGET / HTTP/1.1\r\nHost: example.com\r\n\r\nGET / HTTP/1.1\r\n\r\n",
         (
             41,
@@ -90,7 +94,7 @@ static ARRIVALS: [(&[u8], Taken); 15] = [
             b"GET / HTTP/1.1\r\nHost: example.com\r\n\r\n",
         ),
     ),
-    (
+    Arrival(
         b"\r\nGET / HTTP/1.1\r\nHost: example.com\r\n",
         (
             37,
@@ -101,14 +105,14 @@ static ARRIVALS: [(&[u8], Taken); 15] = [
 ];
 
 // A pair, that many letters and an end: how many of these bytes are taken, and what is found with them.
-type Large = (usize, &'static [u8], usize, Found);
+struct Large(usize, &'static [u8], usize, Found);
 
 static LARGE: [Large; 5] = [
-    (16_383, b"", 16_385, Found::NeedMore),
-    (16_384, b"", 16_386, Found::TooLarge),
-    (20_000, b"\r\n\r\n", 16_386, Found::TooLarge),
-    (16_380, b"\r\n\r\nrest", 16_386, Found::Head { len: 16_384 }),
-    (16_381, b"\r\n\r\n", 16_386, Found::TooLarge),
+    Large(16_383, b"", 16_385, Found::NeedMore),
+    Large(16_384, b"", 16_386, Found::TooLarge),
+    Large(20_000, b"\r\n\r\n", 16_386, Found::TooLarge),
+    Large(16_380, b"\r\n\r\nrest", 16_386, Found::Head { len: 16_384 }),
+    Large(16_381, b"\r\n\r\n", 16_386, Found::TooLarge),
 ];
 
 // Whether this is taken of these bytes where the pair is cut, and pieces of 1 or of 30,000 bytes come after it.
@@ -122,10 +126,12 @@ fn is_large_of(alloc: Global, bytes: &[u8], taken: usize, found: Found) -> bool 
     }
 }
 
-fn is_large(alloc: Global, large: &Large) -> bool {
-    match repeated(alloc, b"\r\n", b"A", large.0, large.1) {
-        Ok(bytes) => is_large_of(alloc, &bytes, large.2, large.3),
-        Err(_) => false,
+impl Row for Large {
+    fn holds(&self, alloc: Global) -> bool {
+        match repeated(alloc, b"\r\n", b"A", self.0, self.1) {
+            Ok(bytes) => is_large_of(alloc, &bytes, self.2, self.3),
+            Err(_) => false,
+        }
     }
 }
 
@@ -141,22 +147,13 @@ fn are_found(search: &mut HeadSearch) -> bool {
         && search.text() == Some(b"GET /bc HTTP/1.1\r\n\r\n")
 }
 
-#[test]
-fn heads_in_pieces(rt: HostRuntime) {
-    for (bytes, taken) in &ARRIVALS {
-        check(
-            &rt,
-            is_taken_in_pieces(rt.alloc(), bytes, taken),
-            "heads in pieces",
-        );
-    }
-    for large in &LARGE {
-        check(&rt, is_large(rt.alloc(), large), "heads that are too large");
-    }
+// The same of a new search.
+fn are_found_anew(alloc: Global) -> bool {
+    let mut search = HeadSearch::new(alloc);
+    are_found(&mut search)
 }
 
-#[test]
-fn next_head_after_clear(rt: HostRuntime) {
-    let mut search = HeadSearch::new(rt.alloc());
-    check(&rt, are_found(&mut search), "heads after one another");
+/// Whether heads are found in pieces, also one behind another, and those that are too large are refused.
+pub(crate) fn hold(alloc: Global) -> bool {
+    all_hold(alloc, &ARRIVALS) && all_hold(alloc, &LARGE) && are_found_anew(alloc)
 }

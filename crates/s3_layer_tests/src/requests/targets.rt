@@ -1,53 +1,44 @@
 //! What targets say, with their escapes read once.
-use crate::checks::{check, check_none};
-use crate::requests::asked::{Question, Table, Told, first_other, is_so, number, word};
+use crate::checks;
+use crate::requests::asked::{Question, Table, is_so};
+use crate::texts::{add, add_code, add_number};
 use s3_http_heads::{Head, Target};
-use s3_terms::NoMemory;
 use std::alloc::Global;
 
-/// Appends a line with the name, a colon and the value.
-pub(crate) fn push_line(text: &mut Vec<u8>, name: &[u8], value: &[u8]) -> Result<(), NoMemory> {
+/// Adds a line with the name, a colon and the value.
+pub(crate) fn add_line(out: &mut Vec<u8>, name: &[u8], value: &[u8]) {
     for part in [b"\n".as_slice(), name, b":", value] {
-        text.extend_from_slice(part)?;
+        add(out, part);
     }
-    Ok(())
 }
 
-// The path, the bucket and the key.
-fn front_text(alloc: Global, target: &Target) -> Told {
-    let front = [
-        target.path(),
-        b"\n",
-        target.bucket(),
-        b"\n",
-        target.key(),
-        b"\n",
-    ];
-    Ok(front.concat(alloc)?)
-}
-
-// The same and the parameters.
-fn whole_text(alloc: Global, target: &Target) -> Told {
-    let mut text = front_text(alloc, target)?;
+// Adds the path, the bucket, the key and the parameters.
+fn add_whole(out: &mut Vec<u8>, target: &Target) {
+    for part in [target.path(), target.bucket(), target.key()] {
+        add(out, part);
+        add(out, b"\n");
+    }
     for index in 0..target.parameter_count() {
         let (name, value) = target.parameter(index);
-        push_line(&mut text, name, value)?;
+        add_line(out, name, value);
     }
-    Ok(text)
 }
 
-/// What the target of a head says.
-pub(crate) fn target_text(alloc: Global, head: &Head) -> Told {
-    whole_text(alloc, head.decoded_target()?)
+/// Adds what the target of a head says.
+pub(crate) fn add_target(out: &mut Vec<u8>, head: &Head) {
+    match head.decoded_target() {
+        Ok(target) => add_whole(out, target),
+        Err(code) => add_code(out, code),
+    }
 }
 
-/// How many parameters the target of a head has, or `b` where one of them is called so.
-pub(crate) fn parameters_text(alloc: Global, head: &Head) -> Told {
-    let target = head.decoded_target()?;
-    if target.has_parameter(b"b") {
-        return word(alloc, "b");
+/// Adds how many parameters the target of a head has, or `b` where one of them is called so.
+pub(crate) fn add_parameters(out: &mut Vec<u8>, head: &Head) {
+    match head.decoded_target() {
+        Ok(target) if target.has_parameter(b"b") => add(out, b"b"),
+        Ok(target) => add_number(out, target.parameter_count() as u64),
+        Err(code) => add_code(out, code),
     }
-    number(alloc, target.parameter_count() as u64)
 }
 
 const TARGETS: Table = Table {
@@ -87,9 +78,10 @@ fn is_decoded(alloc: Global) -> bool {
     )
 }
 
-#[test]
-fn targets(rt: HostRuntime) {
-    let other = first_other(rt.alloc(), &TABLES);
-    check_none(&rt, other);
-    check(&rt, is_decoded(rt.alloc()), "a decoded target");
+/// The first row that doesn't hold.
+pub(crate) fn first_other(alloc: Global) -> Option<&'static str> {
+    if !is_decoded(alloc) {
+        return Some("a decoded target");
+    }
+    checks::first_other(alloc, &TABLES)
 }

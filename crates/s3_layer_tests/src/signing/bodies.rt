@@ -1,9 +1,9 @@
 //! Bodies and what comes of them, whole and in pieces: the worked examples of bodies that are sent as they are, and the
 //! example of AWS in signed chunks ("Signature calculations for the authorization header: transferring payload in multiple
 //! chunks"), and what is wrong with it where it is changed. The hashes are those of Python's `hashlib`.
-use crate::checks::check_none;
+use crate::checks::{self, Rows};
 use crate::signing::server::reader;
-use crate::signing::texts::joined;
+use crate::texts::joined;
 use s3_payloads::PayloadReader;
 use s3_terms::Code;
 use std::alloc::Global;
@@ -82,28 +82,35 @@ struct Table {
     rows: &'static str,
 }
 
-// Whether a row holds; `None` says that it isn't well written.
-fn holds(alloc: Global, limit: u64, row: &str) -> Option<bool> {
-    let (names, row) = row.split_once('|')?;
-    let (body, wanted) = row.split_once('|')?;
-    let lines = joined(alloc, names)?;
-    let body = joined(alloc, body)?;
+// Whether that comes of it in pieces of each size.
+fn is_so_in_pieces(alloc: Global, lines: &[u8], limit: u64, body: &[u8], wanted: &str) -> bool {
     for size in &PIECES {
-        if !is_so(alloc, &lines, limit, &body, *size, wanted) {
-            return Some(false);
+        if !is_so(alloc, lines, limit, body, *size, wanted) {
+            return false;
         }
     }
-    Some(true)
+    true
 }
 
-// The first row of this table that doesn't hold.
-fn first_in(alloc: Global, table: &Table) -> Option<&'static str> {
-    for row in table.rows.split('^') {
-        if holds(alloc, table.limit, row) != Some(true) {
-            return Some(row);
-        }
+// Whether that comes of the body behind the head of these lines.
+fn comes(alloc: Global, lines: &[u8], limit: u64, body: Option<Vec<u8>>, wanted: &str) -> bool {
+    match body {
+        Some(body) => is_so_in_pieces(alloc, lines, limit, &body, wanted),
+        None => false,
     }
-    None
+}
+
+impl Rows for Table {
+    fn rows(&self) -> &'static str {
+        self.rows
+    }
+
+    fn holds(&self, alloc: Global, row: &str) -> Option<bool> {
+        let (names, row) = row.split_once('|')?;
+        let (body, wanted) = row.split_once('|')?;
+        let lines = joined(alloc, names)?;
+        Some(comes(alloc, &lines, self.limit, joined(alloc, body), wanted))
+    }
 }
 
 const BODIES: Table = Table {
@@ -154,10 +161,7 @@ const PUBLISHED: Table = Table {
 
 static TABLES: [Table; 3] = [BODIES, HEADS, PUBLISHED];
 
-#[test]
-fn bodies(rt: HostRuntime) {
-    for table in &TABLES {
-        let other = first_in(rt.alloc(), table);
-        check_none(&rt, other);
-    }
+/// The first row that doesn't hold.
+pub(crate) fn first_other(alloc: Global) -> Option<&'static str> {
+    checks::first_other(alloc, &TABLES)
 }

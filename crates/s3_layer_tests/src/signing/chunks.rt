@@ -3,12 +3,11 @@
 //! fault at its place. The places are counted by hand: a chunk's first line has 83 bytes behind its size.
 ghost use Rattle.std.specs.Prelude.{[]};
 
-use crate::checks::{check, check_none};
+use crate::signing::blocks::are_kept;
 use crate::signing::bodies::is_outcome;
 use crate::signing::server::{MOMENT, REGION, STAMP, verdict};
-use crate::signing::texts::{is_same, joined};
+use crate::texts::{add, is_same, joined};
 use s3_aws_chunked::{CHUNK_MAX, ChunkReader, Sink, write_chunks, written_length};
-use s3_bodies::{BLOCK_SIZE, Body as Kept, PayloadBuilder};
 use s3_calendar::Stamp;
 use s3_http_heads::Head;
 use s3_signing::{ChunkChain, Verified};
@@ -16,6 +15,7 @@ use s3_terms::{Code, NoMemory};
 use s3_test_servers::SECRET;
 use sha2::{Digest, Sha256};
 use std::alloc::Global;
+use std::mem::drop;
 
 /// The data of a body.
 #[derive(Drop)]
@@ -46,14 +46,19 @@ impl Sink for Full {
 
 // The published head, verified.
 fn verified(alloc: Global) -> Result<Verified, Code> {
-    let text = joined(alloc, "PUBLISHED").ok_or(Code::InternalError)?;
-    verdict(alloc, REGION, &Head::read(alloc, &text)?, MOMENT)
+    let Some(text) = joined(alloc, "PUBLISHED") else {
+        return Err(Code::InternalError);
+    };
+    match Head::read(alloc, &text) {
+        Ok(head) => verdict(alloc, REGION, &head, MOMENT),
+        Err(code) => Err(code),
+    }
 }
 
 const SEED: [u8; 64] = *b"4f232c4386841ef735655705268965c44a0e4690baa4adea153f7db9fa80a0a9";
 
-// The body of this data in chunks of so many bytes, signed behind that head.
-fn written(alloc: Global, data: &[u8], size: usize) -> Option<Vec<u8>> {
+/// The body of this data in chunks of so many bytes, signed behind that head.
+pub(crate) fn written(alloc: Global, data: &[u8], size: usize) -> Option<Vec<u8>> {
     if size < 1 || size > CHUNK_MAX {
         return None;
     }
@@ -91,20 +96,27 @@ fn fed(reader: &mut ChunkReader, bytes: &[u8], size: usize, data: &mut Data) -> 
     Ok(taken)
 }
 
+// Whether that comes of the body where it was fed so, so many bytes were taken, and it has this data.
+fn comes(fed: Result<u64, Code>, taken: u64, data: &[u8], body: &Body) -> bool {
+    match fed {
+        Ok(count) => {
+            count == taken && is_outcome(b"read", taken, body.wanted) && is_same(data, body.data)
+        }
+        Err(code) => is_outcome(code.name().as_bytes(), taken, body.wanted),
+    }
+}
+
 // Whether that comes of the body, in pieces of so many bytes.
 fn is_so(alloc: Global, verified: &Verified, body: &Body, size: usize) -> bool {
     let mut reader = ChunkReader::new(verified, body.encoded, body.decoded);
     let mut data = Data {
         bytes: Vec::new(alloc),
     };
-    match fed(&mut reader, body.bytes, size, &mut data) {
-        Ok(taken) => {
-            taken == reader.taken()
-                && is_outcome(b"read", taken, body.wanted)
-                && is_same(&data.bytes, body.data)
-        }
-        Err(code) => is_outcome(code.name().as_bytes(), reader.taken(), body.wanted),
-    }
+    let fed = fed(&mut reader, body.bytes, size, &mut data);
+    let is_right = comes(fed, reader.taken(), &data.bytes, body);
+    drop(reader);
+    drop(data);
+    is_right
 }
 
 static PIECES: [usize; 9] = [1, 2, 3, 5, 7, 100, 1_000, 4_096, 66_824];
@@ -338,13 +350,14 @@ static CASES: [Case; 21] = [
     },
 ];
 
-// The bytes of a case.
+// The bytes of a case; `None` says that it isn't well written.
 fn bytes_of(alloc: Global, hello: &[u8], case: &Case) -> Option<Vec<u8>> {
-    let mut bytes = Vec::from_slice(alloc, hello.get(..case.kept)?).ok()?;
-    bytes.extend_from_slice(case.put).ok()?;
-    bytes
-        .extend_from_slice(hello.get(case.from..case.to)?)
-        .ok()?;
+    let front = hello.get(..case.kept)?;
+    let behind = hello.get(case.from..case.to)?;
+    let mut bytes = Vec::new(alloc);
+    add(&mut bytes, front);
+    add(&mut bytes, case.put);
+    add(&mut bytes, behind);
     Some(bytes)
 }
 
@@ -383,19 +396,26 @@ fn is_refused(alloc: Global, verified: &Verified, bytes: &[u8]) -> bool {
     fed(&mut reader, bytes, 5, &mut data).is_err()
 }
 
+// The same of a body that is there.
+fn is_made_and_refused(alloc: Global, verified: &Verified, bytes: Option<Vec<u8>>) -> bool {
+    match bytes {
+        Some(bytes) => is_refused(alloc, verified, &bytes),
+        None => false,
+    }
+}
+
+// The body with the lowest bit of the byte at a place flipped.
+fn flipped(alloc: Global, hello: &[u8], at: usize) -> Option<Vec<u8>> {
+    let front = hello.get(..at)?;
+    let (byte, behind) = hello.get(at..)?.split_first()?;
+    [front, &[*byte ^ 1], behind].concat(alloc).ok()
+}
+
 // Whether the body is refused with the lowest bit of any one byte flipped.
-fn is_each_byte_read(alloc: Global, verified: &Verified, mut hello: Vec<u8>) -> bool {
+fn is_each_byte_read(alloc: Global, verified: &Verified, hello: &[u8]) -> bool {
     for at in 0..263 {
-        match hello.get_mut(at) {
-            Some(byte) => *byte ^= 1,
-            None => return false,
-        }
-        if !is_refused(alloc, verified, &hello) {
+        if !is_made_and_refused(alloc, verified, flipped(alloc, hello, at)) {
             return false;
-        }
-        match hello.get_mut(at) {
-            Some(byte) => *byte ^= 1,
-            None => return false,
         }
     }
     true
@@ -412,18 +432,25 @@ fn is_refused_thrice(verified: &Verified, body: &[u8]) -> bool {
 }
 
 // The first thing that is wrong with the body of `hello`.
-fn first_of_hello(alloc: Global, verified: &Verified) -> Option<&'static str> {
-    let Some(hello) = written(alloc, b"hello", 3) else {
-        return Some("the writing of hello");
-    };
-    let other = first_case(alloc, verified, &hello);
-    if other.is_some() {
-        return other;
+fn first_of_hello(alloc: Global, verified: &Verified, hello: &[u8]) -> Option<&'static str> {
+    if !is_refused_thrice(verified, hello) {
+        return Some("no room");
     }
-    if is_refused_thrice(verified, &hello) && is_each_byte_read(alloc, verified, hello) {
-        None
-    } else {
-        Some("no room, or a flipped byte")
+    if !is_each_byte_read(alloc, verified, hello) {
+        return Some("a flipped byte");
+    }
+    first_case(alloc, verified, hello)
+}
+
+// The same of a body that is there.
+fn first_of_written(
+    alloc: Global,
+    verified: &Verified,
+    hello: Option<Vec<u8>>,
+) -> Option<&'static str> {
+    match hello {
+        Some(hello) => first_of_hello(alloc, verified, &hello),
+        None => Some("the writing of hello"),
     }
 }
 
@@ -444,13 +471,19 @@ fn is_empty_read(alloc: Global, verified: &Verified) -> bool {
     }
 }
 
-fn first_other(alloc: Global) -> Option<&'static str> {
-    match verified(alloc) {
-        Ok(verified) if is_empty_read(alloc, &verified) => {
-            first_published(alloc, &verified).or(first_of_hello(alloc, &verified))
-        }
-        _ => Some("the published head, or the empty chunk"),
+// The first of all that doesn't hold behind the published head.
+fn first_behind(alloc: Global, verified: &Verified) -> Option<&'static str> {
+    if !is_empty_read(alloc, verified) {
+        return Some("the empty chunk");
     }
+    if !are_kept(alloc, verified) {
+        return Some("bodies around the ends of blocks");
+    }
+    let other = first_published(alloc, verified);
+    if other.is_some() {
+        return other;
+    }
+    first_of_written(alloc, verified, written(alloc, b"hello", 3))
 }
 
 // A signature of a last chunk, and that of the trailer behind it, as the tests of the library minio-go have them after an
@@ -469,72 +502,20 @@ fn is_trailer_signed() -> bool {
     chain.is_trailer(hash, &TRAILER) && !chain.is_trailer(hash, &LAST)
 }
 
-// The size of a body around the ends of blocks, and that of the chunks in which it comes.
-static AROUND_BLOCKS: [(usize, usize); 8] = [
-    (65_535, 8_192),
-    (65_535, 65_536),
-    (65_536, 8_192),
-    (65_536, 65_536),
-    (65_537, 8_192),
-    (65_537, 65_536),
-    (131_072, 8_192),
-    (131_072, 65_536),
-];
+// The lengths of the published body, of `hello` in chunks of 3 bytes, and of the empty chunk alone.
+fn are_lengths() -> bool {
+    written_length(66_560, 65_536) == Some(66_824)
+        && written_length(5, 3) == Some(263)
+        && written_length(0, 1) == Some(86)
+}
 
-// Bytes of which no two blocks begin alike.
-fn counted(alloc: Global, size: usize) -> Result<Vec<u8>, NoMemory> {
-    let mut bytes = Vec::with_capacity(alloc, size)?;
-    for i in 0..size {
-        bytes.push((i % 251) as u8)?;
+/// The first thing that doesn't hold.
+pub(crate) fn first_other(alloc: Global) -> Option<&'static str> {
+    if !are_lengths() || !is_trailer_signed() {
+        return Some("lengths of bodies in chunks, or the signature of a trailer");
     }
-    Ok(bytes)
-}
-
-// The data of a body in chunks that comes in pieces of a page.
-fn data_of(alloc: Global, verified: &Verified, bytes: &[u8], size: usize) -> Result<Kept, Code> {
-    let mut payload = PayloadBuilder::new(alloc, size as u64);
-    let mut reader = ChunkReader::new(verified, bytes.len() as u64, size as u64);
-    for piece in bytes.chunks(4_096) {
-        reader.feed(piece, &mut payload)?;
+    match verified(alloc) {
+        Ok(verified) => first_behind(alloc, &verified),
+        Err(_) => Some("the published head"),
     }
-    reader.end()?;
-    Ok(payload.finish().into_body()?)
-}
-
-// Whether the data of a body of this size, in chunks of so many bytes, is kept in full blocks.
-fn is_kept(alloc: Global, verified: &Verified, row: &(usize, usize)) -> Result<bool, Code> {
-    let data = counted(alloc, row.0)?;
-    let bytes = written(alloc, &data, row.1).ok_or(Code::InternalError)?;
-    let body = data_of(alloc, verified, &bytes, row.0)?;
-    let first = if body.size() > 0 {
-        body.piece(0).bytes().len()
-    } else {
-        0
-    };
-    let copy = body.to_vec(alloc)?;
-    Ok(is_same(&copy, &data) && first == row.0.min(BLOCK_SIZE))
-}
-
-// The same behind the published head.
-fn kept_in_blocks(alloc: Global, row: &(usize, usize)) -> Result<bool, Code> {
-    is_kept(alloc, &verified(alloc)?, row)
-}
-
-// Bodies, and the lengths of the published one, of `hello` in chunks of 3 bytes, and of the empty chunk alone.
-#[test]
-fn bodies_in_chunks(rt: HostRuntime) {
-    let other = first_other(rt.alloc());
-    check_none(&rt, other);
-    for row in &AROUND_BLOCKS {
-        let is_right = kept_in_blocks(rt.alloc(), row).unwrap_or(false);
-        check(&rt, is_right, "bodies around the ends of blocks");
-    }
-    check(
-        &rt,
-        written_length(66_560, 65_536) == Some(66_824)
-            && written_length(5, 3) == Some(263)
-            && written_length(0, 1) == Some(86),
-        "lengths of bodies in chunks",
-    );
-    check(&rt, is_trailer_signed(), "the signature of a trailer");
 }

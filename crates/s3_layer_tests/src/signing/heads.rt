@@ -1,11 +1,12 @@
 //! What is asked of a head, and the text that tells the answer.
+use crate::checks::Rows;
 use crate::signing::server::{REGION, STAMP, authorization, verdict};
-use crate::signing::texts::{Told, is_same, is_told, joined};
+use crate::texts::{add, add_code, add_told, add_word, is_same, joined};
 use s3_authorization::Authorization;
 use s3_http_heads::Head;
 use s3_signing::Verified;
-use s3_terms::Code;
 use std::alloc::Global;
+use std::mem::drop;
 
 /// What is asked of a text.
 pub(crate) enum Question {
@@ -47,26 +48,55 @@ fn is_example(verified: &Verified) -> bool {
         && is_same(verified.word().text(), EMPTY)
 }
 
-// What is told of a head that was verified.
-fn verified_text(alloc: Global, question: &Question, verified: &Verified) -> Told {
+// Adds what is told of a head that was verified.
+fn add_verified(out: &mut Vec<u8>, question: &Question, verified: &Verified) {
     match question {
-        Question::Example if is_example(verified) => Ok(Vec::from_slice(alloc, b"example")?),
-        _ => Ok(Vec::from_slice(alloc, verified.word().text())?),
+        Question::Example if is_example(verified) => add(out, b"example"),
+        _ => add(out, verified.word().text()),
     }
 }
 
-// What is told of an authorization.
-fn names_text(alloc: Global, text: &[u8]) -> Told {
-    let sent = Authorization::read(text)?;
-    Ok([sent.id(), b" ", sent.signed()].concat(alloc)?)
+// Adds what is told of an authorization.
+fn add_names(out: &mut Vec<u8>, text: &[u8]) {
+    match Authorization::read(text) {
+        Ok(sent) => {
+            add(out, sent.id());
+            add_word(out, sent.signed());
+        }
+        Err(code) => add_code(out, code),
+    }
 }
 
-// What is told of the head of this text.
-fn head_text(alloc: Global, question: &Question, region: &[u8], text: &[u8], seconds: u64) -> Told {
-    let head = Head::read(alloc, text)?;
-    match question {
-        Question::Authorization => authorization(alloc, &head),
-        _ => verified_text(alloc, question, &verdict(alloc, region, &head, seconds)?),
+// Adds what a server in this region says of a head at that second.
+fn add_verdict(
+    alloc: Global,
+    out: &mut Vec<u8>,
+    question: &Question,
+    region: &[u8],
+    head: &Head,
+    seconds: u64,
+) {
+    match verdict(alloc, region, head, seconds) {
+        Ok(verified) => add_verified(out, question, &verified),
+        Err(code) => add_code(out, code),
+    }
+}
+
+// Adds what is told of the head of this text.
+fn add_head(
+    alloc: Global,
+    out: &mut Vec<u8>,
+    question: &Question,
+    region: &[u8],
+    text: &[u8],
+    seconds: u64,
+) {
+    match Head::read(alloc, text) {
+        Ok(head) => match question {
+            Question::Authorization => add_told(out, authorization(alloc, &head)),
+            _ => add_verdict(alloc, out, question, region, &head, seconds),
+        },
+        Err(code) => add_code(out, code),
     }
 }
 
@@ -78,47 +108,37 @@ pub(crate) fn is_judged(
     seconds: u64,
     wanted: &str,
 ) -> bool {
-    is_told(
-        &head_text(alloc, &Question::Word, region, text, seconds),
-        wanted.as_bytes(),
-    )
+    let mut out = Vec::new(alloc);
+    add_head(alloc, &mut out, &Question::Word, region, text, seconds);
+    is_same(&out, wanted.as_bytes())
 }
 
-// What is told of a row's text.
-fn row_text(alloc: Global, table: &Table, names: &str) -> Told {
-    let mut text = joined(alloc, names).ok_or(Code::InternalError)?;
+// Adds what is told of a text, which lacks the end of its head.
+fn add_row(alloc: Global, out: &mut Vec<u8>, table: &Table, text: &mut Vec<u8>) {
     match &table.question {
-        Question::Names => names_text(alloc, &text),
+        Question::Names => add_names(out, text),
         question => {
-            text.extend_from_slice(b"\r\n")?;
-            head_text(alloc, question, REGION, &text, table.seconds)
+            add(text, b"\r\n");
+            add_head(alloc, out, question, REGION, text, table.seconds);
         }
     }
 }
 
-// Whether a row holds; `None` says that it has no bar.
-fn holds(alloc: Global, table: &Table, row: &str) -> Option<bool> {
-    let (names, wanted) = row.split_once('|')?;
-    Some(is_told(&row_text(alloc, table, names), wanted.as_bytes()))
+// Whether that is told of this text.
+fn is_so(alloc: Global, table: &Table, mut text: Vec<u8>, wanted: &str) -> bool {
+    let mut out = Vec::new(alloc);
+    add_row(alloc, &mut out, table, &mut text);
+    is_same(&out, wanted.as_bytes())
 }
 
-// The first row of this table that doesn't hold.
-fn first_in(alloc: Global, table: &Table) -> Option<&'static str> {
-    for row in table.rows.split('^') {
-        if holds(alloc, table, row) != Some(true) {
-            return Some(row);
-        }
+impl Rows for Table {
+    fn rows(&self) -> &'static str {
+        self.rows
     }
-    None
-}
 
-/// The first row of these tables that doesn't hold.
-pub(crate) fn first_other(alloc: Global, tables: &[Table]) -> Option<&'static str> {
-    for table in tables {
-        let other = first_in(alloc, table);
-        if other.is_some() {
-            return other;
-        }
+    fn holds(&self, alloc: Global, row: &str) -> Option<bool> {
+        let (names, wanted) = row.split_once('|')?;
+        let text = joined(alloc, names)?;
+        Some(is_so(alloc, self, text, wanted))
     }
-    None
 }

@@ -1,8 +1,9 @@
 //! Presigned requests: the published example, when it holds, how its query may be spelled, and each refusal. The
 //! signatures are that of the example, and those of Python's `hmac` and `hashlib`.
-use crate::checks::check_none;
-use crate::signing::heads::{Question, Table, first_other};
+use crate::checks;
+use crate::signing::heads::{Question, Table};
 use crate::signing::server::MOMENT;
+use std::alloc::Global;
 
 // The example of "Authenticating Requests: Using Query Parameters" of the Amazon S3 API Reference, at the first and the last
 // second at which it holds, and one second to either side.
@@ -125,8 +126,7 @@ const REFUSED: Table = Table {
 
 static TABLES: [Table; 6] = [EARLIEST, LATEST, TOO_EARLY, TOO_LATE, VERIFIED, REFUSED];
 
-#[test]
-fn presigned_heads(rt: HostRuntime) {
-    let other = first_other(rt.alloc(), &TABLES);
-    check_none(&rt, other);
+/// The first row that doesn't hold.
+pub(crate) fn first_other(alloc: Global) -> Option<&'static str> {
+    checks::first_other(alloc, &TABLES)
 }

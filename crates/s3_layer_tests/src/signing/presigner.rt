@@ -1,16 +1,17 @@
 //! Targets that are presigned, and requests that have them: the published example, others, and each fault of what is asked
 //! for. The other signatures are those of a few lines over Python's `hmac`, which give the published one too; `botocore`
 //! gives the same target of a put.
-use crate::checks::{check, check_none};
+use crate::checks::{self, Rows};
 use crate::signing::heads::is_judged;
 use crate::signing::server::REGION;
-use crate::signing::signer::{EXAMPLE, Headers, Signer, headers_of, is_outcome, signer_of};
-use crate::signing::texts::joined;
+use crate::signing::signer::{
+    EXAMPLE, Headers, Signer, headers_of, is_outcome, signer_of, text_of, two_of,
+};
+use crate::texts::joined;
 use s3_authorization::Expires;
 use s3_calendar::Stamp;
 use s3_signer::{Unsigned, presigned_request, presigned_target};
 use std::alloc::Global;
-use std::str;
 
 /// What is presigned, without its lines.
 #[derive(Clone, Copy)]
@@ -101,12 +102,9 @@ fn expires_of(seconds: &str) -> Option<Expires> {
 
 // What a row asks for, its lines, and what comes of it.
 fn asked_of(row: &str) -> Option<(Asked<'_>, &str, &str)> {
-    let (kind, row) = row.split_once('|')?;
-    let (seconds, row) = row.split_once('|')?;
-    let (method, row) = row.split_once('|')?;
-    let (target, row) = row.split_once('|')?;
-    let (lines, row) = row.split_once('|')?;
-    let (body, wanted) = row.split_once('|')?;
+    let (kind, seconds, row) = two_of(row)?;
+    let (method, target, row) = two_of(row)?;
+    let (lines, body, wanted) = two_of(row)?;
     let asked = Asked {
         whole: kind == "request",
         seconds,
@@ -118,17 +116,11 @@ fn asked_of(row: &str) -> Option<(Asked<'_>, &str, &str)> {
 }
 
 // Whether a row holds; `None` says that it isn't well written.
-fn holds(alloc: Global, signer: &str, row: &str) -> Option<bool> {
+fn is_so(alloc: Global, signer: &str, row: &str) -> Option<bool> {
     let signer = signer_of(signer)?;
     let (asked, lines, wanted) = asked_of(row)?;
-    let headers = headers_of(alloc, lines)?;
+    let headers = headers_of(alloc, lines);
     Some(is_presigned(alloc, &signer, &asked, headers.as_slice(), wanted))
-}
-
-// Whether the row that this text stands for holds.
-fn holds_spelled(alloc: Global, signer: &str, row: &str) -> Option<bool> {
-    let row = joined(alloc, row)?;
-    holds(alloc, signer, str::from_utf8(&row).ok()?)
 }
 
 /// What is asked of a signer, and what comes of it: `target` or `request`, a bar, for how many seconds it holds, a bar, the
@@ -138,25 +130,15 @@ struct Table {
     rows: &'static str,
 }
 
-// The first row of this table that doesn't hold.
-fn first_in(alloc: Global, table: &Table) -> Option<&'static str> {
-    for row in table.rows.split('^') {
-        if holds_spelled(alloc, table.signer, row) != Some(true) {
-            return Some(row);
-        }
+impl Rows for Table {
+    fn rows(&self) -> &'static str {
+        self.rows
     }
-    None
-}
 
-// The first row of these tables that doesn't hold.
-fn first_other(alloc: Global, tables: &[Table]) -> Option<&'static str> {
-    for table in tables {
-        let other = first_in(alloc, table);
-        if other.is_some() {
-            return other;
-        }
+    fn holds(&self, alloc: Global, row: &str) -> Option<bool> {
+        let row = joined(alloc, row);
+        is_so(alloc, self.signer, text_of(&row))
     }
-    None
 }
 
 // The example of "Authenticating requests: using query parameters" of the Amazon S3 API Reference; a put; the same with its
@@ -256,11 +238,6 @@ static TABLES: [Table; 10] = [
     },
 ];
 
-#[test]
-fn targets_are_presigned(rt: HostRuntime) {
-    check_none(&rt, first_other(rt.alloc(), &TABLES));
-}
-
 // A server's region, a second, and what it says then of a request that is presigned for us-east-1 and for a day.
 type Server = (&'static [u8], u64, &'static str);
 
@@ -287,26 +264,38 @@ fn are_judged(alloc: Global, text: &[u8]) -> bool {
 }
 
 // A request without a body, which is a head alone, that is presigned for a day.
-fn is_verified(alloc: Global) -> Option<bool> {
-    let signer = signer_of(EXAMPLE)?;
-    let stamp = Stamp::read(signer.stamp)?;
-    let asked = Asked {
-        whole: true,
-        seconds: "86400",
-        method: b"GET",
-        target: b"/k?a=b",
-        body: b"",
-    };
-    let lines: Headers = &[(b"Host", b"examplebucket.s3.amazonaws.com")];
-    let expires = expires_of(asked.seconds)?;
-    let text = request(alloc, &signer, &asked, lines, stamp, expires).ok()?;
-    Some(are_judged(alloc, &text))
+const FOR_A_DAY: Asked = Asked {
+    whole: true,
+    seconds: "86400",
+    method: b"GET",
+    target: b"/k?a=b",
+    body: b"",
+};
+
+const LINES: Headers = &[(b"Host", b"examplebucket.s3.amazonaws.com")];
+
+// Whether the servers say so of a request.
+fn is_judged_so(alloc: Global, request: Result<Vec<u8>, Unsigned>) -> bool {
+    match request {
+        Ok(text) => are_judged(alloc, &text),
+        Err(_) => false,
+    }
 }
 
 // From 900 seconds before the stamp to a day behind it a server verifies the request; a second before and behind that, or
 // in another region, it does not.
-#[test]
-fn what_is_presigned_is_verified(rt: HostRuntime) {
-    let verified = is_verified(rt.alloc()) == Some(true);
-    check(&rt, verified, "a verified presigned request");
+fn is_verified(alloc: Global) -> Option<bool> {
+    let signer = signer_of(EXAMPLE)?;
+    let stamp = Stamp::read(signer.stamp)?;
+    let expires = expires_of(FOR_A_DAY.seconds)?;
+    let request = request(alloc, &signer, &FOR_A_DAY, LINES, stamp, expires);
+    Some(is_judged_so(alloc, request))
+}
+
+/// The first row that doesn't hold.
+pub(crate) fn first_other(alloc: Global) -> Option<&'static str> {
+    if is_verified(alloc) != Some(true) {
+        return Some("a verified presigned request");
+    }
+    checks::first_other(alloc, &TABLES)
 }

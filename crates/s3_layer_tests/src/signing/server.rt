@@ -4,7 +4,7 @@
 ghost use Rattle.std.specs.Prelude.{◌≡◌, not};
 ghost use Rattle.s3_http_heads.specs.Target.{is_unreadable};
 
-use crate::signing::texts::Told;
+use crate::texts::{Told, add};
 use s3_calendar::{Moment, Stamp};
 use s3_config::Config;
 use s3_http_heads::{Head, framing};
@@ -13,6 +13,7 @@ use s3_signing::{KeptKey, Verified, sign_head, verify_head};
 use s3_terms::Code;
 use s3_test_servers::{ID, SECRET, config};
 use std::alloc::Global;
+use std::mem::drop;
 
 pub(crate) const REGION: &[u8] = b"us-east-1";
 
@@ -57,20 +58,31 @@ pub(crate) fn verdict(
     }
 }
 
-// The text of a head with these lines, and these behind them.
-fn head_of(alloc: Global, lines: &[u8], behind: &[&[u8]]) -> Result<Head, Code> {
-    let behind = behind.concat(alloc)?;
-    let text = [lines, &behind, b"\r\n"].concat(alloc)?;
-    Head::read(alloc, &text)
+// Adds these lines.
+fn add_all(text: &mut Vec<u8>, lines: &[&[u8]]) {
+    for line in lines {
+        add(text, line);
+    }
+}
+
+// The head with these lines.
+fn head_of(alloc: Global, lines: &[&[u8]]) -> Result<Head, Code> {
+    let mut text = Vec::new(alloc);
+    add_all(&mut text, lines);
+    let head = Head::read(alloc, &text);
+    drop(text);
+    head
 }
 
 // The head of these lines, with its authorization.
 fn signed_head(alloc: Global, lines: &[u8]) -> Result<Head, Code> {
-    let head = head_of(alloc, lines, &[])?;
-    let value = authorization(alloc, &head);
-    drop(head);
-    let value = value?;
-    head_of(alloc, lines, &[b"authorization: ", &value, b"\r\n"])
+    match head_of(alloc, &[lines, b"\r\n"]) {
+        Ok(head) => match authorization(alloc, &head) {
+            Ok(value) => head_of(alloc, &[lines, b"authorization: ", &value, b"\r\n\r\n"]),
+            Err(code) => Err(code),
+        },
+        Err(code) => Err(code),
+    }
 }
 
 // The reader of the body behind this head, of the server with these settings.
@@ -81,8 +93,10 @@ fn reader_of(
     limit: u64,
 ) -> Result<PayloadReader, Code> {
     let size = framing(head, limit)?;
-    let verified = verdict_of(alloc, config, head, MOMENT)?;
-    PayloadReader::new(alloc, config, head, size, verified)
+    match verdict_of(alloc, config, head, MOMENT) {
+        Ok(verified) => PayloadReader::new(alloc, config, head, size, verified),
+        Err(code) => Err(code),
+    }
 }
 
 // The reader of the body behind this head, of a server that takes bodies of at most so many bytes.
@@ -96,6 +110,8 @@ fn reader_behind(alloc: Global, head: &Head, limit: u64) -> Result<PayloadReader
 /// The reader of the body behind the head of these lines, which is signed here, of a server that takes bodies
 /// of at most `limit` bytes; or the head's refusal.
 pub(crate) fn reader(alloc: Global, lines: &[u8], limit: u64) -> Result<PayloadReader, Code> {
-    let head = signed_head(alloc, lines)?;
-    reader_behind(alloc, &head, limit)
+    match signed_head(alloc, lines) {
+        Ok(head) => reader_behind(alloc, &head, limit),
+        Err(code) => Err(code),
+    }
 }

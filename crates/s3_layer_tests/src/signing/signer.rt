@@ -1,13 +1,14 @@
 //! Requests that are signed, sent whole and in signed chunks: the published examples, requests with bodies, and each fault
 //! of the parts of a request. The other texts and the sizes are those of Python's `hashlib` and `hmac`, and `botocore`
 //! gives the same signature to the put.
-use crate::checks::{check, check_none};
+use crate::checks::{self, Rows};
 use crate::signing::heads::is_judged;
 use crate::signing::server::{REGION, STAMP};
-use crate::signing::texts::joined;
+use crate::texts::joined;
 use s3_calendar::Stamp;
 use s3_signer::{ChunkSize, Unsigned, chunked_request, signed_request};
 use std::alloc::Global;
+use std::mem::drop;
 use std::str;
 
 /// Who signs, and when.
@@ -19,10 +20,16 @@ pub(crate) struct Signer<'a> {
     pub(crate) stamp: &'a [u8],
 }
 
+/// The first two parts of a row, and what stands behind them. A bar stands between two parts.
+pub(crate) fn two_of(row: &str) -> Option<(&str, &str, &str)> {
+    let (first, rest) = row.split_once('|')?;
+    let (second, rest) = rest.split_once('|')?;
+    Some((first, second, rest))
+}
+
 /// The signer whose id, secret, region and stamp stand in this text, with bars between them.
 pub(crate) fn signer_of(text: &str) -> Option<Signer<'_>> {
-    let (id, rest) = text.split_once('|')?;
-    let (secret, rest) = rest.split_once('|')?;
+    let (id, secret, rest) = two_of(text)?;
     let (region, stamp) = rest.split_once('|')?;
     Some(Signer {
         id: id.as_bytes(),
@@ -145,23 +152,27 @@ fn is_signed(
     }
 }
 
+// The name and the value of a line.
+fn line_of(line: &str) -> Option<(&[u8], &[u8])> {
+    let (name, value) = line.split_once('=')?;
+    Some((name.as_bytes(), value.as_bytes()))
+}
+
 /// The lines of a head: names, `=` and values. A semicolon stands between two lines.
-pub(crate) fn headers_of<'a>(alloc: Global, lines: &'a str) -> Option<Vec<(&'a [u8], &'a [u8])>> {
+pub(crate) fn headers_of<'a>(alloc: Global, lines: &'a str) -> Vec<(&'a [u8], &'a [u8])> {
     let mut headers = Vec::new(alloc);
     for line in lines.split(';') {
-        if let Some((name, value)) = line.split_once('=') {
-            headers.push((name.as_bytes(), value.as_bytes())).ok()?;
+        if let Some(line) = line_of(line) {
+            drop(headers.push(line));
         }
     }
-    Some(headers)
+    headers
 }
 
 // A row's request, its lines, and what comes of it.
 fn request_of(row: &str) -> Option<(Request<'_>, &str, &str)> {
-    let (size, row) = row.split_once('|')?;
-    let (method, row) = row.split_once('|')?;
-    let (target, row) = row.split_once('|')?;
-    let (lines, row) = row.split_once('|')?;
+    let (size, method, row) = two_of(row)?;
+    let (target, lines, row) = two_of(row)?;
     let (body, wanted) = row.split_once('|')?;
     let request = Request {
         size,
@@ -173,22 +184,24 @@ fn request_of(row: &str) -> Option<(Request<'_>, &str, &str)> {
 }
 
 // Whether a row holds; `None` says that it isn't well written.
-fn holds(alloc: Global, signer: &str, row: &str) -> Option<bool> {
+fn is_so(alloc: Global, signer: &str, row: &str) -> Option<bool> {
     let signer = signer_of(signer)?;
     let (request, lines, wanted) = request_of(row)?;
-    let headers = headers_of(alloc, lines)?;
+    let headers = headers_of(alloc, lines);
     Some(is_signed(alloc, &signer, &request, headers.as_slice(), wanted))
 }
 
-// Whether the row that this text stands for holds.
-fn holds_spelled(alloc: Global, signer: &str, row: &str) -> Option<bool> {
-    let signer = joined(alloc, signer)?;
-    let row = joined(alloc, row)?;
-    holds(
-        alloc,
-        str::from_utf8(&signer).ok()?,
-        str::from_utf8(&row).ok()?,
-    )
+/// The text of these bytes; none where they are no text.
+pub(crate) fn text_of(bytes: &Option<Vec<u8>>) -> &str {
+    match bytes {
+        Some(bytes) => str::from_utf8(bytes).unwrap_or(""),
+        None => "",
+    }
+}
+
+// The same of the texts that these stand for.
+fn is_so_spelled(alloc: Global, signer: &Option<Vec<u8>>, row: &Option<Vec<u8>>) -> Option<bool> {
+    is_so(alloc, text_of(signer), text_of(row))
 }
 
 /// Requests of a signer, and what comes of signing them: the size of their chunks, if they have such, a bar, their method, a
@@ -198,25 +211,16 @@ struct Table {
     rows: &'static str,
 }
 
-// The first row of this table that doesn't hold.
-fn first_in(alloc: Global, table: &Table) -> Option<&'static str> {
-    for row in table.rows.split('^') {
-        if holds_spelled(alloc, table.signer, row) != Some(true) {
-            return Some(row);
-        }
+impl Rows for Table {
+    fn rows(&self) -> &'static str {
+        self.rows
     }
-    None
-}
 
-// The first row of these tables that doesn't hold.
-fn first_other(alloc: Global, tables: &[Table]) -> Option<&'static str> {
-    for table in tables {
-        let other = first_in(alloc, table);
-        if other.is_some() {
-            return other;
-        }
+    fn holds(&self, alloc: Global, row: &str) -> Option<bool> {
+        let signer = joined(alloc, self.signer);
+        let row = joined(alloc, row);
+        is_so_spelled(alloc, &signer, &row)
     }
-    None
 }
 
 /// The signer of the published examples.
@@ -386,13 +390,6 @@ fn are_odd(alloc: Global) -> bool {
         && is_signed(alloc, &signer, &GET, lines, "signed")
 }
 
-#[test]
-fn requests_are_signed(rt: HostRuntime) {
-    let other = first_other(rt.alloc(), &TABLES);
-    check_none(&rt, other);
-    check(&rt, are_odd(rt.alloc()), "odd requests");
-}
-
 // A server's region, a second, and what it says then of a head that is signed for us-east-1.
 type Server = (&'static [u8], u64, &'static str);
 
@@ -433,9 +430,11 @@ fn is_verified(alloc: Global) -> bool {
     }
 }
 
-// 900 seconds after the stamp a server still verifies the head; a second later, or in another region,
-// it does not.
-#[test]
-fn what_is_written_is_verified(rt: HostRuntime) {
-    check(&rt, is_verified(rt.alloc()), "a verified request");
+/// The first row that doesn't hold. 900 seconds after the stamp a server still verifies the head; a second later, or in another
+/// region, it does not.
+pub(crate) fn first_other(alloc: Global) -> Option<&'static str> {
+    if !are_odd(alloc) || !is_verified(alloc) {
+        return Some("odd requests, or a verified one");
+    }
+    checks::first_other(alloc, &TABLES)
 }

@@ -1,5 +1,5 @@
 //! Texts of event lines, right and wrong, and the lines of outputs and of refused messages.
-use crate::checks::check;
+use crate::checks::{Row, all_hold};
 use itoa::Buffer;
 use s3_events::{Event, EventsError, Script, print_fault, print_output, read_events};
 use s3_terms::Code;
@@ -53,62 +53,65 @@ fn add_reading(alloc: Global, out: &mut Vec<u8>, text: &str) {
     }
 }
 
-// Whether a text is read so.
-fn is_read(alloc: Global, text: &str, wanted: &str) -> bool {
-    let mut out = Vec::new(alloc);
-    add_reading(alloc, &mut out, text);
-    out.as_slice() == wanted.as_bytes()
-}
-
 // Texts, each with what it is read as.
-static READINGS: [(&str, &str); 43] = [
-    ("", ""),
-    ("end 0", "[ ] e0"),
-    ("end 0\n", "[ ] e0"),
-    ("end 0\n\n", "bad 2"),
-    ("\n", "bad 1"),
-    ("turn 2\nend 0\n", "[ ][ ][ ] t2 e0"),
-    (
+struct Reading(&'static str, &'static str);
+
+static READINGS: [Reading; 43] = [
+    Reading("", ""),
+    Reading("end 0", "[ ] e0"),
+    Reading("end 0\n", "[ ] e0"),
+    Reading("end 0\n\n", "bad 2"),
+    Reading("\n", "bad 1"),
+    Reading("turn 2\nend 0\n", "[ ][ ][ ] t2 e0"),
+    Reading(
         "end 000000000063",
         "[ ][ ][ ][ ][ ][ ][ ][ ][ ][ ][ ][ ][ ][ ][ ][ ][ ][ ][ ][ ][ ][ ][ ][ ][ ][ ][ ][ ][ ][ ][ ][ ][ ][ ][ ][ ][ ][ ][ ][ ][ ][ ][ ][ ][ ][ ][ ][ ][ ][ ][ ][ ][ ][ ][ ][ ][ ][ ][ ][ ][ ][ ][ ][ ] e63",
     ),
-    ("end 0000000000063", "bad 1"),
-    ("end 64", "bad 1"),
-    ("end -1", "bad 1"),
-    ("end ", "bad 1"),
-    ("end", "bad 1"),
-    ("end 0 ", "bad 1"),
-    ("end 0 0", "bad 1"),
-    ("end  0", "bad 1"),
-    ("\x20end 0", "bad 1"),
-    ("End 0", "bad 1"),
-    ("stop 0", "bad 1"),
-    ("end 0\r\n", "bad 1"),
-    ("turn 0 1", "bad 1"),
-    ("piece 1 6a4B", "[ ][ ] p1=jK"),
-    ("piece 1 6A4b\npiece 1 2e\n", "[ ][ ] p1=jK p1=."),
-    ("piece 1 6a4", "bad 1"),
-    ("piece 1 6g", "bad 1"),
-    ("piece 1 ", "bad 1"),
-    ("piece 1", "bad 1"),
-    ("piece 1 6a 4b", "bad 1"),
-    ("piece 1  6a", "bad 1"),
-    ("moments 1 5 000000000006\nturn 1\n", "[ ][ 5 6 ] t1"),
-    ("moments 0 253402300799", "[ 253402300799 ]"),
-    ("moments 0 253402300800", "bad 1"),
-    ("moments 0 0000000000000", "bad 1"),
-    ("moments 0 1 ", "bad 1"),
-    ("moments 0 1  2", "bad 1"),
-    ("moments 0 1 x", "bad 1"),
-    ("moments 0", "bad 1"),
-    ("moments 0 ", "bad 1"),
-    ("moments 1 1\nmoments 0 2 2\nend 1", "[ 2 2 ][ 1 ] e1"),
-    ("moments 0 1\nturn 0\nmoments 0 2", "bad 3"),
-    ("moments 0 1\nmoments 0 1", "bad 2"),
-    ("piece 0 00\nmoments 0 1", "bad 2"),
-    ("end 0\nmoments 1 1\nmoments 0 1\nend 64", "bad 3"),
-    ("end 0\nend 1\nend 2\nend 64\nend", "bad 4"),
+    Reading("end 0000000000063", "bad 1"),
+    Reading("end 64", "bad 1"),
+    Reading("end -1", "bad 1"),
+    Reading("end ", "bad 1"),
+    Reading("end", "bad 1"),
+    Reading("end 0 ", "bad 1"),
+    Reading("end 0 0", "bad 1"),
+    Reading("end  0", "bad 1"),
+    Reading("\x20end 0", "bad 1"),
+    Reading("End 0", "bad 1"),
+    Reading("stop 0", "bad 1"),
+    Reading("end 0\r\n", "bad 1"),
+    Reading("turn 0 1", "bad 1"),
+    Reading("piece 1 6a4B", "[ ][ ] p1=jK"),
+    Reading("piece 1 6A4b\npiece 1 2e\n", "[ ][ ] p1=jK p1=."),
+    Reading("piece 1 6a4", "bad 1"),
+    Reading("piece 1 6g", "bad 1"),
+    Reading("piece 1 ", "bad 1"),
+    Reading("piece 1", "bad 1"),
+    Reading("piece 1 6a 4b", "bad 1"),
+    Reading("piece 1  6a", "bad 1"),
+    Reading("moments 1 5 000000000006\nturn 1\n", "[ ][ 5 6 ] t1"),
+    Reading("moments 0 253402300799", "[ 253402300799 ]"),
+    Reading("moments 0 253402300800", "bad 1"),
+    Reading("moments 0 0000000000000", "bad 1"),
+    Reading("moments 0 1 ", "bad 1"),
+    Reading("moments 0 1  2", "bad 1"),
+    Reading("moments 0 1 x", "bad 1"),
+    Reading("moments 0", "bad 1"),
+    Reading("moments 0 ", "bad 1"),
+    Reading("moments 1 1\nmoments 0 2 2\nend 1", "[ 2 2 ][ 1 ] e1"),
+    Reading("moments 0 1\nturn 0\nmoments 0 2", "bad 3"),
+    Reading("moments 0 1\nmoments 0 1", "bad 2"),
+    Reading("piece 0 00\nmoments 0 1", "bad 2"),
+    Reading("end 0\nmoments 1 1\nmoments 0 1\nend 64", "bad 3"),
+    Reading("end 0\nend 1\nend 2\nend 64\nend", "bad 4"),
 ];
+
+impl Row for Reading {
+    fn holds(&self, alloc: Global) -> bool {
+        let mut out = Vec::new(alloc);
+        add_reading(alloc, &mut out, self.0);
+        out.as_slice() == self.1.as_bytes()
+    }
+}
 
 // Connections, each with its output.
 static OUTPUTS: [(u32, &[u8]); 3] = [(0, b""), (1, b"\x00\xfe"), (2, b"jK")];
@@ -131,17 +134,10 @@ fn are_printed(alloc: Global, wanted: &[u8]) -> bool {
     out.as_slice() == wanted
 }
 
-#[test]
-fn readings_and_outputs(rt: HostRuntime) {
-    for (text, wanted) in &READINGS {
-        check(&rt, is_read(rt.alloc(), *text, *wanted), text);
-    }
-    check(
-        &rt,
-        are_printed(
-            rt.alloc(),
-            b"0 \n1 00fe\n2 6a4b\nrefused 0 10 MalformedHead\nrefused 63 18446744073709551615 SignatureDoesNotMatch\n",
-        ),
-        "printed outputs and faults",
-    );
+const PRINTED: &[u8] =
+    b"0 \n1 00fe\n2 6a4b\nrefused 0 10 MalformedHead\nrefused 63 18446744073709551615 SignatureDoesNotMatch\n";
+
+/// Whether texts are read so, and outputs and faults printed.
+pub(crate) fn hold(alloc: Global) -> bool {
+    all_hold(alloc, &READINGS) && are_printed(alloc, PRINTED)
 }

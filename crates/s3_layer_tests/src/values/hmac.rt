@@ -1,8 +1,9 @@
 //! Tests of `s3_hmac`: MACs that RFC 4231 publishes, and keys of a block and above.
 
-use crate::checks::check;
+use crate::checks::{Row, all_hold};
 use s3_hmac::{Mac, hmac, long_keys_are_hashed};
 use sha2::{Digest, Sha256};
+use std::alloc::Global;
 
 // The MAC of "what do ya want for nothing?" under the key "Jefe", by RFC 4231.
 const QUESTION_MAC: &[u8; 64] = b"5bdcc146bf60754e6a042426089575c75a003f089d2739839dec58b964ec3843";
@@ -15,23 +16,23 @@ fn is_written(mac: [u8; 32], digits: &[u8; 64]) -> bool {
 }
 
 // A key, a message and its MAC.
-type Case = (&'static [u8], &'static [u8], &'static [u8; 64]);
+struct Case(&'static [u8], &'static [u8], &'static [u8; 64]);
 
 // The first two are test cases of RFC 4231, with SHA-256. A key of a block is used as it is, and one of
 // 65 bytes is hashed: these two MACs are those of Python's `hmac`.
 static CASES: [Case; 4] = [
-    (
+    Case(
         &[0x0b; 20],
         b"Hi There",
         b"b0344c61d8db38535ca8afceaf0bf12b881dc200c9833da726e9376c2e32cff7",
     ),
-    (b"Jefe", b"what do ya want for nothing?", QUESTION_MAC),
-    (
+    Case(b"Jefe", b"what do ya want for nothing?", QUESTION_MAC),
+    Case(
         &[0xaa; 64],
         b"however the message is cut",
         b"d51625c32649ef6a2ce23b581c896bbb21767a3603446888578c26b6120b357a",
     ),
-    (
+    Case(
         &[0xaa; 65],
         b"however the message is cut",
         b"af51c5cc0cf0b40a7a6f88807ea6713f1f0fc2f4f8a68451b2ffd9bbbc658c1a",
@@ -53,16 +54,14 @@ fn in_pieces() -> [u8; 32] {
     mac.finish()
 }
 
-// A long key is hashed, and a message in three pieces has the MAC of the whole.
-#[test]
-fn hmac_vectors(rt: HostRuntime) {
-    for case in &CASES {
-        check(&rt, is_written(hmac(case.0, case.1), case.2), "vectors");
+impl Row for Case {
+    fn holds(&self, _alloc: Global) -> bool {
+        is_written(hmac(self.0, self.1), self.2)
     }
-    check(
-        &rt,
-        is_hashed() && is_written(in_pieces(), QUESTION_MAC),
-        "pieces",
-    );
+}
+
+/// Whether messages have their MACs, a long key is hashed, and a message in three pieces has the MAC of the whole.
+pub(crate) fn hold(alloc: Global) -> bool {
     long_keys_are_hashed();
+    all_hold(alloc, &CASES) && is_hashed() && is_written(in_pieces(), QUESTION_MAC)
 }

@@ -1,7 +1,8 @@
 //! Tests of `s3_names`: part numbers, the ids of versions and uploads, and entity tags.
 
-use crate::checks::check;
+use crate::checks::{Row, all_hold};
 use s3_names::{PartNumber, Tag, UploadId, VersionId};
+use std::alloc::Global;
 
 // What a text names, or does not.
 #[derive(Clone, Copy)]
@@ -15,29 +16,31 @@ enum Named {
     NoUpload,
 }
 
-static TEXTS: [(&[u8], Named); 22] = [
-    (b"1", Named::Part(1)),
-    (b"00001", Named::Part(1)),
-    (b"10000", Named::Part(10_000)),
-    (b"10001", Named::NoPart),
-    (b"0", Named::NoPart),
-    (b"000001", Named::NoPart),
-    (b"+1", Named::NoPart),
-    (b"1 ", Named::NoPart),
-    (b"", Named::NoPart),
-    (b"v0123456789abcdef", Named::Version(0x0123_4567_89ab_cdef)),
-    (b"vffffffffffffffff", Named::Version(u64::MAX)),
-    (b"null", Named::NullVersion),
-    (b"v0123456789ABCDEF", Named::NoVersion),
-    (b"v0123456789abcde", Named::NoVersion),
-    (b"v0123456789abcdef0", Named::NoVersion),
-    (b"u0123456789abcdef", Named::NoVersion),
-    (b"Null", Named::NoVersion),
-    (b"", Named::NoVersion),
-    (b"u0000000000000000", Named::Upload(0)),
-    (b"u00000000000003e8", Named::Upload(1_000)),
-    (b"u000000000000000g", Named::NoUpload),
-    (b"null", Named::NoUpload),
+struct Case(&'static [u8], Named);
+
+static TEXTS: [Case; 22] = [
+    Case(b"1", Named::Part(1)),
+    Case(b"00001", Named::Part(1)),
+    Case(b"10000", Named::Part(10_000)),
+    Case(b"10001", Named::NoPart),
+    Case(b"0", Named::NoPart),
+    Case(b"000001", Named::NoPart),
+    Case(b"+1", Named::NoPart),
+    Case(b"1 ", Named::NoPart),
+    Case(b"", Named::NoPart),
+    Case(b"v0123456789abcdef", Named::Version(0x0123_4567_89ab_cdef)),
+    Case(b"vffffffffffffffff", Named::Version(u64::MAX)),
+    Case(b"null", Named::NullVersion),
+    Case(b"v0123456789ABCDEF", Named::NoVersion),
+    Case(b"v0123456789abcde", Named::NoVersion),
+    Case(b"v0123456789abcdef0", Named::NoVersion),
+    Case(b"u0123456789abcdef", Named::NoVersion),
+    Case(b"Null", Named::NoVersion),
+    Case(b"", Named::NoVersion),
+    Case(b"u0000000000000000", Named::Upload(0)),
+    Case(b"u00000000000003e8", Named::Upload(1_000)),
+    Case(b"u000000000000000g", Named::NoUpload),
+    Case(b"null", Named::NoUpload),
 ];
 
 fn is_part(number: u16, text: &[u8]) -> bool {
@@ -58,15 +61,17 @@ fn is_upload(number: u64, text: &[u8]) -> bool {
     id.number() == number && id.text().as_bytes() == text && UploadId::read(text) == Some(id)
 }
 
-fn names(text: &[u8], named: Named) -> bool {
-    match named {
-        Named::Part(number) => is_part(number, text),
-        Named::NoPart => PartNumber::read(text).is_none(),
-        Named::NullVersion => is_version(VersionId::Null, text),
-        Named::Version(number) => is_version(VersionId::of(number), text),
-        Named::NoVersion => VersionId::read(text).is_none(),
-        Named::Upload(number) => is_upload(number, text),
-        Named::NoUpload => UploadId::read(text).is_none(),
+impl Row for Case {
+    fn holds(&self, _alloc: Global) -> bool {
+        match self.1 {
+            Named::Part(number) => is_part(number, self.0),
+            Named::NoPart => PartNumber::read(self.0).is_none(),
+            Named::NullVersion => is_version(VersionId::Null, self.0),
+            Named::Version(number) => is_version(VersionId::of(number), self.0),
+            Named::NoVersion => VersionId::read(self.0).is_none(),
+            Named::Upload(number) => is_upload(number, self.0),
+            Named::NoUpload => UploadId::read(self.0).is_none(),
+        }
     }
 }
 
@@ -78,16 +83,12 @@ fn is_tag(tag: &Tag, text: &[u8]) -> bool {
     tag.text().as_bytes() == text && tag.copy().text().as_bytes() == text
 }
 
-#[test]
-fn ids_and_a_tag(rt: HostRuntime) {
-    for (text, named) in &TEXTS {
-        check(&rt, names(*text, *named), "ids");
-    }
-    let whole = is_tag(&Tag::of_digest(MD5), b"5d41402abc4b2a76b9719d911017c592");
-    check(&rt, whole, "tags");
-    let joined = is_tag(
-        &Tag::joined(MD5, 10_000),
-        b"5d41402abc4b2a76b9719d911017c592-10000",
-    );
-    check(&rt, joined, "joined tags");
+/// Whether texts name parts, versions and uploads, and tags have their texts.
+pub(crate) fn hold(alloc: Global) -> bool {
+    all_hold(alloc, &TEXTS)
+        && is_tag(&Tag::of_digest(MD5), b"5d41402abc4b2a76b9719d911017c592")
+        && is_tag(
+            &Tag::joined(MD5, 10_000),
+            b"5d41402abc4b2a76b9719d911017c592-10000",
+        )
 }

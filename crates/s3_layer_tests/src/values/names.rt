@@ -1,6 +1,6 @@
 //! Tests of `s3_names`: the names of buckets and the keys of objects, alone and in maps.
 
-use crate::checks::check;
+use crate::checks::{Row, all_hold};
 use s3_names::{BucketName, Key};
 use s3_terms::{Code, NoMemory};
 use std::alloc::Global;
@@ -15,58 +15,56 @@ fn fault_of_name(alloc: Global, name: &[u8]) -> Option<Code> {
 const INVALID: Option<Code> = Some(Code::InvalidBucketName);
 
 // Texts, and why they name no bucket, if they don't.
-static NAMES: [(&[u8], Option<Code>); 21] = [
-    (b"pail", None),
-    (b"a.b.c", None),
-    (b"a-.b", None),
-    (b"a.-b", None),
-    (b"1234.5.6", None),
-    (b"1.2.3.4.5", None),
-    (b"1.2.3.x", None),
-    (b"abc", None),
-    (&[b'a'; 63], None),
-    (b"", INVALID),
-    (b"ab", INVALID),
-    (b"Pail", INVALID),
-    (b"p_il", INVALID),
-    (b"-ab", INVALID),
-    (b"ab-", INVALID),
-    (b".ab", INVALID),
-    (b"ab.", INVALID),
-    (b"a..b", INVALID),
-    (b"192.168.0.1", INVALID),
-    (b"1234.5.6.7890", INVALID),
-    (&[b'a'; 64], INVALID),
+struct Name(&'static [u8], Option<Code>);
+
+static NAMES: [Name; 21] = [
+    Name(b"pail", None),
+    Name(b"a.b.c", None),
+    Name(b"a-.b", None),
+    Name(b"a.-b", None),
+    Name(b"1234.5.6", None),
+    Name(b"1.2.3.4.5", None),
+    Name(b"1.2.3.x", None),
+    Name(b"abc", None),
+    Name(&[b'a'; 63], None),
+    Name(b"", INVALID),
+    Name(b"ab", INVALID),
+    Name(b"Pail", INVALID),
+    Name(b"p_il", INVALID),
+    Name(b"-ab", INVALID),
+    Name(b"ab-", INVALID),
+    Name(b".ab", INVALID),
+    Name(b"ab.", INVALID),
+    Name(b"a..b", INVALID),
+    Name(b"192.168.0.1", INVALID),
+    Name(b"1234.5.6.7890", INVALID),
+    Name(&[b'a'; 64], INVALID),
 ];
 
-// Whether that many of one byte are a key, or this is why they are none.
-fn is_fault_of_key(alloc: Global, case: &(u8, usize, Option<Code>)) -> bool {
-    match vec![in alloc; case.0; case.1] {
-        Ok(key) => Key::read(alloc, key.as_slice()).err() == case.2,
-        Err(_) => false,
+impl Row for Name {
+    fn holds(&self, alloc: Global) -> bool {
+        fault_of_name(alloc, self.0) == self.1
     }
 }
 
-static KEYS: [(u8, usize, Option<Code>); 4] = [
-    (b'k', 1_024, None),
-    (b'k', 1_025, Some(Code::KeyTooLongError)),
-    (0xff, 1_025, Some(Code::InvalidURI)),
-    (b'k', 0, Some(Code::InvalidURI)),
-];
+// A byte, how many of it are read, and why they are no key, if they are none.
+struct Repeated(u8, usize, Option<Code>);
 
-#[test]
-fn names_and_keys(rt: HostRuntime) {
-    for case in &NAMES {
-        check(
-            &rt,
-            fault_of_name(rt.alloc(), case.0) == case.1,
-            "names of buckets",
-        );
-    }
-    for case in &KEYS {
-        check(&rt, is_fault_of_key(rt.alloc(), case), "keys");
+impl Row for Repeated {
+    fn holds(&self, alloc: Global) -> bool {
+        match vec![in alloc; self.0; self.1] {
+            Ok(key) => Key::read(alloc, key.as_slice()).err() == self.2,
+            Err(_) => false,
+        }
     }
 }
+
+static KEYS: [Repeated; 4] = [
+    Repeated(b'k', 1_024, None),
+    Repeated(b'k', 1_025, Some(Code::KeyTooLongError)),
+    Repeated(0xff, 1_025, Some(Code::InvalidURI)),
+    Repeated(b'k', 0, Some(Code::InvalidURI)),
+];
 
 // Whether a copy of the name of these bytes has them, and is the same name.
 fn copies_name(alloc: Global, bytes: &[u8]) -> bool {
@@ -127,15 +125,12 @@ fn are_names_in_order(alloc: Global, low: &[u8], high: &[u8]) -> bool {
     }
 }
 
-// Byte order: `/` is below `0`.
-#[test]
-fn copies_and_maps(rt: HostRuntime) {
-    check(
-        &rt,
-        copies_name(rt.alloc(), b"pail")
-            && copies_key(rt.alloc(), b"k\xc3\xa9")
-            && are_keys_in_order(rt.alloc(), b"a/b", b"a0")
-            && are_names_in_order(rt.alloc(), b"pail", b"tub"),
-        "copies and maps",
-    );
+/// Whether names of buckets and keys are read so, and copied, and stand in byte order in maps: `/` is below `0`.
+pub(crate) fn hold(alloc: Global) -> bool {
+    all_hold(alloc, &NAMES)
+        && all_hold(alloc, &KEYS)
+        && copies_name(alloc, b"pail")
+        && copies_key(alloc, b"k\xc3\xa9")
+        && are_keys_in_order(alloc, b"a/b", b"a0")
+        && are_names_in_order(alloc, b"pail", b"tub")
 }

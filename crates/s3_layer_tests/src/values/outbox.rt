@@ -1,7 +1,7 @@
 //! What a connection has still to send: replies with and without bodies, the last text, how they are taken, and memory
 //! that is given back.
 
-use crate::checks::check;
+use crate::checks::{Row, all_hold};
 use s3_bodies::Body;
 use s3_outbox::Outbox;
 use std::alloc::Global;
@@ -269,14 +269,16 @@ fn is_sent(alloc: Global, case: &Case, way: &Way) -> bool {
     is_sent
 }
 
-// Whether all of a case is sent in its order, however it is taken.
-fn is_sent_anyhow(alloc: Global, case: &Case) -> bool {
-    for way in &WAYS {
-        if !is_sent(alloc, case, way) {
-            return false;
+// Whether all of it is sent in its order, however it is taken.
+impl Row for Case {
+    fn holds(&self, alloc: Global) -> bool {
+        for way in &WAYS {
+            if !is_sent(alloc, self, way) {
+                return false;
+            }
         }
+        true
     }
-    true
 }
 
 // So many of a byte, or none where there is no memory for them.
@@ -340,27 +342,29 @@ fn goes_in(outbox: &mut Outbox, writes: &[&[Part]]) -> bool {
     outbox.out().is_empty()
 }
 
-// Whether two replies and a last text of these sizes go out in their writes. A last text of no size is none.
-fn is_cut(alloc: Global, sizes: &Sizes) -> bool {
-    let mut outbox = Outbox::new(alloc);
-    put_sizes(alloc, sizes.first, &mut outbox);
-    put_sizes(alloc, sizes.second, &mut outbox);
-    if sizes.last > 0 {
-        let text = filled(alloc, b'l', sizes.last);
-        end(&mut outbox, &text);
+// Puts a last text of this size in; one of no size is none.
+fn end_with(alloc: Global, size: usize, outbox: &mut Outbox) {
+    if size > 0 {
+        let text = filled(alloc, b'l', size);
+        end(outbox, &text);
         drop(text);
     }
-    let is_cut = goes_in(&mut outbox, sizes.writes);
-    drop(outbox);
-    is_cut
 }
 
-#[test]
-fn replies_are_sent_in_their_order(rt: HostRuntime) {
-    for case in CASES {
-        check(&rt, is_sent_anyhow(rt.alloc(), case), "replies");
+// Whether two replies and a last text of these sizes go out in their writes.
+impl Row for Sizes {
+    fn holds(&self, alloc: Global) -> bool {
+        let mut outbox = Outbox::new(alloc);
+        put_sizes(alloc, self.first, &mut outbox);
+        put_sizes(alloc, self.second, &mut outbox);
+        end_with(alloc, self.last, &mut outbox);
+        let is_cut = goes_in(&mut outbox, self.writes);
+        drop(outbox);
+        is_cut
     }
-    for sizes in SIZES {
-        check(&rt, is_cut(rt.alloc(), sizes), "sizes");
-    }
+}
+
+/// Whether replies are sent in their order, and go out in their writes.
+pub(crate) fn hold(alloc: Global) -> bool {
+    all_hold(alloc, CASES) && all_hold(alloc, SIZES)
 }

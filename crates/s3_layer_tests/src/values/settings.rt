@@ -1,6 +1,6 @@
 //! Tests of `s3_config`: access keys, and the settings of a server.
 
-use crate::checks::check;
+use crate::checks::{Row, all_hold};
 use s3_config::{Config, Credential};
 use s3_names::BucketName;
 use s3_terms::{Code, Dialect};
@@ -9,30 +9,34 @@ use std::mem::drop;
 
 fn key(alloc: Global, id: &[u8], secret: &[u8]) -> Result<Option<Credential>, Code> {
     let id = Vec::from_slice(alloc, id)?;
-    let secret = Vec::from_slice(alloc, secret)?;
-    Ok(Credential::new(id, secret))
+    match Vec::from_slice(alloc, secret) {
+        Ok(secret) => Ok(Credential::new(id, secret)),
+        Err(_) => Err(Code::InternalError),
+    }
 }
 
 // An id, a secret, and whether they are an access key.
-type Case = (&'static [u8], &'static [u8], bool);
+struct Case(&'static [u8], &'static [u8], bool);
 
 static CREDENTIALS: [Case; 8] = [
-    (b"one", b"any byte, / and \n", true),
-    (&[b'a'; 128], b"s", true),
-    (&[b'a'; 129], b"s", false),
-    (b"a,b", b"s", false),
-    (b"a b", b"s", false),
-    (b"a/b", b"s", false),
-    (b"a", b"", false),
-    (b"", b"s", false),
+    Case(b"one", b"any byte, / and \n", true),
+    Case(&[b'a'; 128], b"s", true),
+    Case(&[b'a'; 129], b"s", false),
+    Case(b"a,b", b"s", false),
+    Case(b"a b", b"s", false),
+    Case(b"a/b", b"s", false),
+    Case(b"a", b"", false),
+    Case(b"", b"s", false),
 ];
 
-// Whether the case's parts are an access key that tells its id and its secret, or none, as it says.
-fn is_right(alloc: Global, case: &Case) -> bool {
-    match key(alloc, case.0, case.1) {
-        Ok(Some(key)) => (case.2, key.id(), key.secret()) == (true, case.0, case.1),
-        Ok(None) => !case.2,
-        Err(_) => false,
+// Whether its parts are an access key that tells its id and its secret, or none, as it says.
+impl Row for Case {
+    fn holds(&self, alloc: Global) -> bool {
+        match key(alloc, self.0, self.1) {
+            Ok(Some(key)) => (self.2, key.id(), key.secret()) == (true, self.0, self.1),
+            Ok(None) => !self.2,
+            Err(_) => false,
+        }
     }
 }
 
@@ -68,13 +72,15 @@ type Parts = (
 
 // The settings of these parts, if they are any; `InternalError` where not each part could be made.
 fn config(alloc: Global, parts: &Parts) -> Result<Option<Config>, Code> {
-    let region = Vec::from_slice(alloc, parts.0)?;
     let keys = keys(alloc, parts.1);
     let buckets = buckets(alloc, parts.3);
-    if keys.len() != parts.1.len() || buckets.len() != parts.3.len() {
-        return Err(Code::InternalError);
+    let are_made = keys.len() == parts.1.len() && buckets.len() == parts.3.len();
+    match Vec::from_slice(alloc, parts.0) {
+        Ok(region) if are_made => {
+            Ok(Config::new(region, keys, 5, parts.2, buckets, Dialect::Json))
+        }
+        _ => Err(Code::InternalError),
     }
-    Ok(Config::new(region, keys, 5, parts.2, buckets, Dialect::Json))
 }
 
 const ONE: &[&[u8]] = &[b"one"];
@@ -82,21 +88,25 @@ const ONE: &[&[u8]] = &[b"one"];
 const PAIL: &[&[u8]] = &[b"pail"];
 
 // Parts, and whether they are settings.
-static LIMITS: [(Parts, bool); 7] = [
-    ((b"r", ONE, 0, &[]), true),
-    ((b"us-east-1", ONE, 67_108_865, PAIL), false),
-    ((b"us-east-1", &[b"one", b"one"], 5, PAIL), false),
-    ((b"us-east-1", ONE, 5, &[b"pail", b"pail"]), false),
-    ((b"us-east-1", &[], 5, PAIL), false),
-    ((b"", ONE, 5, PAIL), false),
-    ((b"us_east", ONE, 5, PAIL), false),
+struct Limit(Parts, bool);
+
+static LIMITS: [Limit; 7] = [
+    Limit((b"r", ONE, 0, &[]), true),
+    Limit((b"us-east-1", ONE, 67_108_865, PAIL), false),
+    Limit((b"us-east-1", &[b"one", b"one"], 5, PAIL), false),
+    Limit((b"us-east-1", ONE, 5, &[b"pail", b"pail"]), false),
+    Limit((b"us-east-1", &[], 5, PAIL), false),
+    Limit((b"", ONE, 5, PAIL), false),
+    Limit((b"us_east", ONE, 5, PAIL), false),
 ];
 
-// Whether the parts are settings, or are none, as the case says.
-fn is_allowed(alloc: Global, case: &(Parts, bool)) -> bool {
-    match config(alloc, &case.0) {
-        Ok(made) => made.is_some() == case.1,
-        Err(_) => false,
+// Whether the parts are settings, or are none, as it says.
+impl Row for Limit {
+    fn holds(&self, alloc: Global) -> bool {
+        match config(alloc, &self.0) {
+            Ok(made) => made.is_some() == self.1,
+            Err(_) => false,
+        }
     }
 }
 
@@ -123,13 +133,7 @@ fn tells_settings(alloc: Global) -> bool {
     }
 }
 
-#[test]
-fn credentials_and_settings(rt: HostRuntime) {
-    for case in &CREDENTIALS {
-        check(&rt, is_right(rt.alloc(), case), "credentials");
-    }
-    for case in &LIMITS {
-        check(&rt, is_allowed(rt.alloc(), case), "limits");
-    }
-    check(&rt, tells_settings(rt.alloc()), "settings");
+/// Whether access keys and settings are made where they may be, and tell their parts.
+pub(crate) fn hold(alloc: Global) -> bool {
+    all_hold(alloc, &CREDENTIALS) && all_hold(alloc, &LIMITS) && tells_settings(alloc)
 }

@@ -1,15 +1,16 @@
 //! The lists of versions that puts and deletes leave, and which version a request reads.
 
-use crate::checks::check;
+use crate::checks::{Row, all_hold};
 use crate::values::steps::{Act, Entry, Known, are, takes};
 use s3_names::VersionId;
 use s3_terms::Code;
 use s3_versions::Versioning::{Enabled, Suspended, Unversioned};
 use s3_versions::{Version, Versions, pick};
 use std::alloc::Global;
+use std::mem::drop;
 
 /// An entry, and the versions that it leaves.
-type Row = (Entry, &'static [Known]);
+type Step = (Entry, &'static [Known]);
 
 /// The number of the bytes that are read, or the refusal and whether it tells of a delete marker.
 type Outcome = Result<u64, (Code, bool)>;
@@ -26,23 +27,22 @@ const V1_MARKER: Known = (b"v0000000000000001", true);
 
 /// Entries, and which versions requests read at their end.
 struct Scenario {
-    name: &'static str,
-    rows: &'static [Row],
+    steps: &'static [Step],
     reads: &'static [(Option<VersionId>, Outcome)],
 }
 
 static SCENARIOS: [Scenario; 7] = [
+    // No versions.
     Scenario {
-        name: "no versions",
-        rows: &[],
+        steps: &[],
         reads: &[
             (None, Err((Code::NoSuchKey, false))),
             (Some(VersionId::Null), Err((Code::NoSuchVersion, false))),
         ],
     },
+    // A delete while versioning is suspended.
     Scenario {
-        name: "a delete while versioning is suspended",
-        rows: &[
+        steps: &[
             ((1, Enabled, Act::Put), &[V1]),
             ((3, Suspended, Act::Put), &[NULL, V1]),
             ((4, Suspended, Act::Delete), &[MARKER, V1]),
@@ -57,9 +57,9 @@ static SCENARIOS: [Scenario; 7] = [
             ),
         ],
     },
+    // Its delete marker is removed.
     Scenario {
-        name: "its delete marker is removed",
-        rows: &[
+        steps: &[
             ((1, Enabled, Act::Put), &[V1]),
             ((3, Suspended, Act::Put), &[NULL, V1]),
             ((4, Suspended, Act::Delete), &[MARKER, V1]),
@@ -70,14 +70,14 @@ static SCENARIOS: [Scenario; 7] = [
         ],
         reads: &[],
     },
+    // A delete marker of no key.
     Scenario {
-        name: "a delete marker of no key",
-        rows: &[((1, Enabled, Act::Delete), &[V1_MARKER])],
+        steps: &[((1, Enabled, Act::Delete), &[V1_MARKER])],
         reads: &[],
     },
+    // Delete markers and the version null.
     Scenario {
-        name: "delete markers and the version null",
-        rows: &[
+        steps: &[
             ((0, Unversioned, Act::Put), &[NULL]),
             ((2, Enabled, Act::Put), &[V2, NULL]),
             ((4, Suspended, Act::Delete), &[MARKER, V2]),
@@ -85,9 +85,9 @@ static SCENARIOS: [Scenario; 7] = [
         ],
         reads: &[],
     },
+    // A bucket that was never versioned.
     Scenario {
-        name: "a bucket that was never versioned",
-        rows: &[
+        steps: &[
             ((0, Unversioned, Act::Put), &[NULL]),
             ((1, Unversioned, Act::Put), &[NULL]),
             ((2, Unversioned, Act::Delete), &[]),
@@ -95,9 +95,9 @@ static SCENARIOS: [Scenario; 7] = [
         ],
         reads: &[],
     },
+    // One version is dropped.
     Scenario {
-        name: "one version is dropped",
-        rows: &[
+        steps: &[
             ((1, Enabled, Act::Put), &[V1]),
             ((2, Enabled, Act::Put), &[V2, V1]),
             (
@@ -136,24 +136,32 @@ fn reads(versions: &[Version<u64>], wanted: &[(Option<VersionId>, Outcome)]) -> 
 }
 
 // Whether an entry is made, and leaves these.
-fn leaves(alloc: Global, versions: &mut Versions<u64>, row: &Row) -> bool {
-    takes(alloc, versions, &row.0) && are(versions.as_slice(), row.1)
+fn leaves(alloc: Global, versions: &mut Versions<u64>, step: &Step) -> bool {
+    takes(alloc, versions, &step.0) && are(versions.as_slice(), step.1)
 }
 
-// Whether the entries of a scenario leave their versions, and these are read so at the end.
-fn is_so(alloc: Global, scenario: &Scenario) -> bool {
-    let mut versions = Versions::new(alloc);
-    for row in scenario.rows {
-        if !leaves(alloc, &mut versions, row) {
+// Whether all of these steps leave what they say.
+fn all_leave(alloc: Global, versions: &mut Versions<u64>, steps: &[Step]) -> bool {
+    for step in steps {
+        if !leaves(alloc, versions, step) {
             return false;
         }
     }
-    reads(versions.as_slice(), scenario.reads)
+    true
 }
 
-#[test]
-fn scenarios(rt: HostRuntime) {
-    for scenario in &SCENARIOS {
-        check(&rt, is_so(rt.alloc(), scenario), scenario.name);
+// Whether its entries leave their versions, and these are read so at the end.
+impl Row for Scenario {
+    fn holds(&self, alloc: Global) -> bool {
+        let mut versions = Versions::new(alloc);
+        let all_leave = all_leave(alloc, &mut versions, self.steps);
+        let is_read = reads(versions.as_slice(), self.reads);
+        drop(versions);
+        all_leave && is_read
     }
+}
+
+/// Whether each scenario goes as it says.
+pub(crate) fn hold(alloc: Global) -> bool {
+    all_hold(alloc, &SCENARIOS)
 }

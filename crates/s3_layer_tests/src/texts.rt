@@ -1,6 +1,8 @@
-//! Texts that are written in a short way.
+//! Texts that tell of something, and texts that are written in a short way.
+use itoa::Buffer;
 use s3_terms::Code;
 use std::alloc::Global;
+use std::mem::drop;
 
 /// A text that tells of something, or the refusal in its place.
 pub(crate) type Told = Result<Vec<u8>, Code>;
@@ -10,11 +12,32 @@ pub(crate) fn is_same(text: &[u8], other: &[u8]) -> bool {
     text == other
 }
 
-/// Whether this is what is told.
-pub(crate) fn is_told(told: &Told, wanted: &[u8]) -> bool {
+/// Adds some bytes. Where there is no memory for them, the text is not as it has to be, which the tests see.
+pub(crate) fn add(out: &mut Vec<u8>, bytes: &[u8]) {
+    drop(out.extend_from_slice(bytes));
+}
+
+/// Adds some bytes, with a space before them.
+pub(crate) fn add_word(out: &mut Vec<u8>, bytes: &[u8]) {
+    add(out, b" ");
+    add(out, bytes);
+}
+
+/// Adds a number in decimal digits.
+pub(crate) fn add_number(out: &mut Vec<u8>, number: u64) {
+    add(out, Buffer::new().format(number).as_bytes());
+}
+
+/// Adds the name of a refusal.
+pub(crate) fn add_code(out: &mut Vec<u8>, code: Code) {
+    add(out, code.name().as_bytes());
+}
+
+/// Adds what is told.
+pub(crate) fn add_told(out: &mut Vec<u8>, told: Told) {
     match told {
-        Ok(text) => is_same(text, wanted),
-        Err(code) => is_same(code.name().as_bytes(), wanted),
+        Ok(text) => add(out, &text),
+        Err(code) => add_code(out, code),
     }
 }
 
@@ -155,32 +178,49 @@ fn text_named<'a>(name: &'a str) -> &'a str {
     name
 }
 
-// Adds a part: copies of a piece, if they end with `}`, and what is behind them.
-fn push_part(text: &mut Vec<u8>, part: &str) -> Option<()> {
-    let Some((copies, rest)) = part.split_once('}') else {
-        return text.extend_from_slice(part.as_bytes()).ok();
-    };
-    let (piece, count) = copies.split_once('*')?;
-    for _ in 0..count.parse::<usize>().ok()? {
-        text.extend_from_slice(piece.as_bytes()).ok()?;
+// Adds so many copies of a piece.
+fn add_copies(text: &mut Vec<u8>, piece: &str, count: usize) {
+    for _ in 0..count {
+        add(text, piece.as_bytes());
     }
-    text.extend_from_slice(rest.as_bytes()).ok()
 }
 
-// Adds a text: `{a*1024}` in it is 1,024 letters `a`.
-fn push_text(text: &mut Vec<u8>, spelling: &str) -> Option<()> {
+// Adds a part: copies of a piece, if they end with `}`, and what is behind them.
+fn add_part(text: &mut Vec<u8>, part: &str) -> Option<()> {
+    let rest = match part.split_once('}') {
+        Some((copies, rest)) => {
+            let (piece, count) = copies.split_once('*')?;
+            add_copies(text, piece, count.parse::<usize>().ok()?);
+            rest
+        }
+        None => part,
+    };
+    add(text, rest.as_bytes());
+    Some(())
+}
+
+/// Adds a text: `{a*1024}` in it is 1,024 letters `a`. `None` says that it isn't well written.
+pub(crate) fn add_text(text: &mut Vec<u8>, spelling: &str) -> Option<()> {
     for part in spelling.split('{') {
-        push_part(text, part)?;
+        add_part(text, part)?;
+    }
+    Some(())
+}
+
+// Adds the texts of these names, one behind the other.
+fn add_all(text: &mut Vec<u8>, names: &str) -> Option<()> {
+    for name in names.split('+') {
+        add_text(text, text_named(name))?;
     }
     Some(())
 }
 
 /// The texts of these names, one behind the other. A `+` stands between two names; what is the name of no text stands for
-/// itself, and `{a*1024}` in it for 1,024 letters `a`. `None` where there is no memory for it.
+/// itself, and `{a*1024}` in it for 1,024 letters `a`. `None` where it isn't well written.
 pub(crate) fn joined(alloc: Global, names: &str) -> Option<Vec<u8>> {
     let mut text = Vec::new(alloc);
-    for name in names.split('+') {
-        push_text(&mut text, text_named(name))?;
+    match add_all(&mut text, names) {
+        Some(()) => Some(text),
+        None => None,
     }
-    Some(text)
 }
