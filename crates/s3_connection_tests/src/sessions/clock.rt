@@ -23,10 +23,17 @@ impl Counting {
         })
     }
 
-    /// A message had the next one.
-    pub(crate) fn go_on(&mut self) {
+    // A message had the next one.
+    fn go_on(&mut self) {
         let seconds = self.next.seconds().saturating_add(self.pace);
         self.next = Moment::new(seconds).unwrap_or(self.next);
         self.count = self.count.saturating_add(1);
+    }
+
+    /// A message had the next one, if it is so.
+    pub(crate) fn go_on_if(&mut self, is_so: bool) {
+        if is_so {
+            self.go_on();
+        }
     }
 }

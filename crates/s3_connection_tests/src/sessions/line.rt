@@ -1,5 +1,5 @@
 //! A connection with the moments of its messages, and the turn that its command waits for.
-ghost use Rattle.std.specs.Prelude.{◌≡◌, is_some};
+ghost use Rattle.std.specs.Prelude.{◌≡◌, true, is_some};
 ghost use Rattle.s3_session.specs.Output.{is_waiting};
 ghost use Rattle.s3_session.specs.Session.{standing_of};
 
@@ -12,6 +12,7 @@ use s3_session::{Fed, Need, Next, Session};
 use s3_store::Store;
 use s3_terms::NoMemory;
 use std::alloc::Global;
+use std::mem::{self, drop};
 
 /// What a connection does next.
 #[derive(Clone, Copy, PartialEq, Eq)]
@@ -41,6 +42,13 @@ pub(crate) struct Line<'a> {
     store: &'a mut Store<MapRecords>,
     ghost waits: { is_waiting (standing_of session) ≡ is_some waiting },
     ghost ends: { session.is_ended ≡ has_ended },
+}
+
+// Holds a turn that is asked for. What stood in its place is dropped, which costs little in the library's function alone.
+fn hold(waiting: &mut Option<Turn>, turn: Turn)
+    ensures held { is_some waiting.new ≡ true }
+{
+    drop(mem::replace(waiting, Some(turn)));
 }
 
 impl<'a> Line<'a> {
@@ -99,13 +107,11 @@ impl<'a> Line<'a> {
             need,
             has_moment,
         } = self.session.feed(self.alloc, self.config, now, piece);
-        if has_moment {
-            self.moments.go_on();
-        }
+        self.moments.go_on_if(has_moment);
         match need {
             Need::More => (len, self.reading()),
             Need::Turn(turn) => {
-                self.waiting = Some(turn);
+                hold(&mut self.waiting, turn);
                 (len, Then::Turn)
             }
             Need::Close => (len, Then::Closed),
