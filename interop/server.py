@@ -25,11 +25,13 @@ def written_keys(folder):
 
 
 class Server:
-    """A server that runs until the `with` block ends. `address` is `127.0.0.1:PORT`."""
+    """A server that runs until the `with` block ends. `address` is `127.0.0.1:PORT`. It has to listen within so many
+    seconds."""
 
-    def __init__(self, program=PROGRAM, options=()):
+    def __init__(self, program=PROGRAM, options=(), patience=20):
         self.program = Path(program)
         self.options = list(options)
+        self.patience = patience
 
     def __enter__(self):
         self.folder = tempfile.TemporaryDirectory()
@@ -37,7 +39,7 @@ class Server:
         words = [self.program, "serve", "--keys", keys, "--listen", "127.0.0.1:0", "--region", REGION]
         words += ["--bucket", BUCKET, *self.options]
         self.running = subprocess.Popen(words, stdin=subprocess.DEVNULL, stdout=subprocess.PIPE, text=True)
-        watch = threading.Timer(20, self.running.kill)
+        watch = threading.Timer(self.patience, self.running.kill)
         watch.start()
         line = self.running.stdout.readline()
         watch.cancel()
