@@ -115,6 +115,10 @@ class AwsApi(Aws):
         words = [word for name, value in named.items() for word in (option_of(f"Response{name}"), value)]
         return json.loads(self.api("get-object", key, *words, "--output", "json", self.path()))
 
+    def told_summed(self, key):
+        words = ["--checksum-mode", "ENABLED", "--output", "json"]
+        return json.loads(self.api("get-object", key, *words, self.path()))
+
     def copy(self, key, other, *words):
         self.api("copy-object", other, "--copy-source", f"{BUCKET}/{key}", *words)
 

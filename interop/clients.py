@@ -121,6 +121,10 @@ class Client:
         """What a get tells of an object where it asks for these lines in the place of those that are kept."""
         raise Lacking()
 
+    def told_summed(self, key):
+        """What a get tells of an object where it asks for checksums, which it compares."""
+        raise Lacking()
+
     def presigned(self, method, key):
         """An address that is signed for a request with this method, for an hour."""
         raise Lacking()

@@ -1,9 +1,11 @@
 """The checks of `interop/run` that it makes with `--dialect s3` alone, where documents are XML: of lists with odd keys,
 of copies, of buckets and versions, and of several deletions by one call. `folders.py` has those of folders."""
 
+import base64
 import os
 import re
 import time
+import zlib
 from hashlib import md5
 
 from clients import MIB, Lacking, Missing, Unmet, copied_in_parts, in_parts
@@ -335,6 +337,14 @@ def told_instead(client, _other):
     same(told.get("ContentLanguage"), KEPT_LINES["content-language"], "the language")
 
 
+def checksum_told(client, _other):
+    """The checksum that a client sends of what it puts is told to its get."""
+    _, folder = filled(client, [])
+    client.put(f"{folder}a", b"hello")
+    sum_of = base64.b64encode(zlib.crc32(b"hello").to_bytes(4, "big")).decode()
+    same(client.told_summed(f"{folder}a").get("ChecksumCRC32"), sum_of, "the checksum")
+
+
 # By name, in their order, as those of `interop/run`.
 CHECKS_FOR_S3 = {
     "64 MiB": whole,
@@ -344,6 +354,7 @@ CHECKS_FOR_S3 = {
     "new after empty": after_empty,
     "write if": write_if,
     "told instead": told_instead,
+    "checksum told": checksum_told,
     "sum of sizes": total,
     "move": move,
     "new metadata": new_metadata,

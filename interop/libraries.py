@@ -84,6 +84,11 @@ class Boto3(Client):
     def told_as(self, key, named):
         return self.call("get_object", key, **{f"Response{name}": value for name, value in named.items()})
 
+    def told_summed(self, key):
+        told = self.call("get_object", key, ChecksumMode="ENABLED")
+        told["Body"].read()
+        return told
+
     def presigned(self, method, key):
         # Without the version it signs an address by the second one, where the region is this.
         operation = {"GET": "get_object", "PUT": "put_object", "HEAD": "head_object"}[method]

@@ -139,4 +139,5 @@ class Payload(Request):
         kind = name.removeprefix(CHECKSUM)
         refuse(not is_read(kind, value), "InvalidRequest")
         refuse(not is_met(kind, value, data), "BadDigest")
+        self.summed = {name: value}
         return Body.of(data.decode())

@@ -5,6 +5,7 @@ import time
 from .bodies import Body
 from .codes import REASONS
 from .documents import CONTENT_TYPES
+from .sums import CHECKSUM
 
 # The moment of a reply, where none is said.
 START = 1369353600
@@ -45,7 +46,8 @@ def place(name):
     of others by theirs."""
     if name.startswith(INSTEAD):
         return ORDER.index("Content-Length") - 0.5, name
-    return ORDER.index(METADATA if name.startswith(METADATA) or name in SYSTEM else name), name
+    is_kept = name.startswith((METADATA, CHECKSUM)) or name in SYSTEM
+    return ORDER.index(METADATA if is_kept else name), name
 
 
 def reply(status, number, lines=(), body=Body(), moment=START):

@@ -154,6 +154,8 @@ class Request:
     def __init__(self, method, target, lines=(), body=Body()):
         self.path, _, query = target.partition("?")
         self.method, self.target, self.lines, self.body, self.asked = method, target, lines, body, {}
+        # The checksum that was found of the body, by the name of its header.
+        self.summed = {}
         pieces = [piece.partition("=") for piece in query.split("&") if piece]
         self.pairs = [(unquote_to_bytes(name), unquote_to_bytes(value)) for name, _, value in pieces]
         for name, value in self.pairs:
@@ -311,7 +313,12 @@ class Request:
         told, body = self.line("content-md5"), self.body.bytes()
         refuse(told is not None and base64.b64decode(told) != hashlib.md5(body).digest(), "BadDigest")
         refuse(not all(is_met(kind, value, body) for kind, value in self.checksums()), "BadDigest")
+        self.summed = {f"{CHECKSUM}{kind}": value for kind, value in self.checksums()}
         return self.body
+
+    def wants_checksums(self):
+        """Whether a read wants to be told checksums."""
+        return is_s3(self) and self.line("x-amz-checksum-mode") == "ENABLED"
 
     def versioning(self):
         """The versioning that a bucket gets."""

@@ -11,6 +11,7 @@ from .codes import CODES
 from .documents import JSON, S3, document
 from .replies import INSTEAD, OF_UNCHANGED, START, of_got, of_stored, of_told, of_unmodified, reply
 from .requests import CONFIGURATIONS, Refused, is_s3, operation, refuse
+from .sums import CHECKSUM
 
 # The region of the servers of scenarios.
 REGION = "us-east-1"
@@ -37,6 +38,11 @@ MARKER = ["x-amz-delete-marker: true"]
 def shown(name):
     """The line that tells a version's id, where there is one to tell."""
     return [] if name is None else [f"x-amz-version-id: {name}"]
+
+
+def of_summed(request):
+    """The line that tells the checksum that was found of a body."""
+    return [f"{name}: {value}" for name, value in request.summed.items()]
 
 
 def quoted(tag):
@@ -286,11 +292,12 @@ class Store:
     # Objects.
 
     def put_object(self, request):
-        description, condition, body = request.description(), request.condition(), request.received()
+        (content_type, metadata), condition, body = request.description(), request.condition(), request.received()
+        description = content_type, metadata | request.summed
         data, bucket = Data(hashlib.md5(body.bytes()).hexdigest(), description, body), self.bucket(request)
         bucket.admit(request.key, *condition)
         name = bucket.put(request.key, self.number, self.moment, data)
-        return self.reply(200, [*shown(name), *of_stored(data.tag)])
+        return self.reply(200, [*shown(name), *of_stored(data.tag), *of_summed(request)])
 
     def source(self, request, place):
         """The version that a copy is of, which has to be as the request's conditions say."""
@@ -329,9 +336,10 @@ class Store:
             return self.reply(304, [*told, *of_unmodified(data.tag, version.moment)])
         size_told = [f"Content-Range: bytes */{data.body.size}"] if self.dialect == S3 else []
         part = range_of(request.line("range"), data.body.size, size_told)
-        told += [*of_got(data.tag, version.moment, content_type), *kept.values()]
+        sums = [line for name, line in kept.items() if name.startswith(CHECKSUM)]
+        told += [*of_got(data.tag, version.moment, content_type), *(line for line in kept.values() if line not in sums)]
         if part is None:
-            return self.reply(200, told, data.body)
+            return self.reply(200, told + sums * request.wants_checksums(), data.body)
         told.append(f"Content-Range: bytes {part[0]}-{part[1]}/{data.body.size}")
         return self.reply(206, told, data.body.cut(*part))
 
@@ -379,7 +387,7 @@ class Store:
         number, name = request.part_number(), request.upload_id()
         part = Part(request.received(), self.moment)
         self.upload(request, name).parts[number] = part
-        return self.reply(200, of_stored(part.digest.hex()))
+        return self.reply(200, [*of_stored(part.digest.hex()), *of_summed(request)])
 
     def upload_part_copy(self, request):
         number, name = request.part_number(), request.upload_id()

@@ -1,3 +1,4 @@
 pub mod SumLemmas
+pub mod TextLemmas
 pub mod SpellingLemmas
 pub mod LawLemmas

@@ -11,7 +11,7 @@ use Rattle.sha2.specs.Sha256.{sha256}
 use Rattle.s3_checksums.specs.Crc.{crc, crc_32, crc_32c, crc_64_nvme}
 use Rattle.s3_integrity.specs.declared.algorithm.ChecksumAlgorithm.{ChecksumAlgorithm}
 use Rattle.s3_integrity.specs.declared.algorithm.ChecksumAlgorithm.TheVariants.{Crc32, Crc32c, Crc64Nvme, Sha1, Sha256}
-use Rattle.s3_integrity.specs.Sum.{size_of, sum_of}
+use Rattle.s3_integrity.specs.Sum.{bytes_of, size_of, sum_of, with_bytes}
 
 bytes-append : (xs ys : List ℕ) → IsBytes xs → IsBytes ys → IsBytes (xs ++ ys)
 bytes-append [] ys first second i = second i
@@ -73,3 +73,11 @@ length-sum_of Crc32c message = refl
 length-sum_of Crc64Nvme message = refl
 length-sum_of Sha1 message = length-words _ 5
 length-sum_of Sha256 message = ap length (same_words _ 8) ∙ length-words _ 8
+
+-- a checksum has the bytes that it was made of
+pub bytes_made : (algorithm : ChecksumAlgorithm) (bytes : List ℕ) → bytes_of (with_bytes algorithm bytes) ≡ bytes
+bytes_made Crc32 bytes = refl
+bytes_made Crc32c bytes = refl
+bytes_made Crc64Nvme bytes = refl
+bytes_made Sha1 bytes = refl
+bytes_made Sha256 bytes = refl

@@ -1,12 +1,12 @@
 //! A checksum that was sent.
-ghost use Rattle.std.specs.Prelude.{◌≡◌, ◌≤◌, is_some, take};
+ghost use Rattle.std.specs.Prelude.{◌≡◌, ◌≤◌, is_some, length, take};
+ghost use Rattle.base64.specs.Engines.{standard};
+ghost use Rattle.base64.specs.GeneralPurpose.{encode_of};
 ghost use Rattle.s3_integrity.specs.Sum.{algorithm_of, as_many, bytes_of, checksum_of, decoded_as, is_spelled};
 
 use crate::ChecksumAlgorithm;
+use crate::checksum_text::{ChecksumText, TEXT_MAX};
 use base64::engine::general_purpose::STANDARD;
-
-// The longest text of a checksum: the base64 of 32 bytes.
-const TEXT_MAX: usize = 44;
 
 // The bytes of room that the decoder asks for such a text.
 const ROOM: usize = 33;
@@ -59,7 +59,8 @@ impl Checksum {
 
     /// Its bytes. It takes no time and no memory.
     pub fn bytes(&self) -> &[u8]
-        ensures { result.now ≡ bytes_of self.now }
+        ensures value { result.now ≡ bytes_of self.now }
+        ensures bound { length (bytes_of self.now) ≤ 32 }
     {
         match self {
             Checksum::Crc32(bytes) => bytes,
@@ -68,6 +69,13 @@ impl Checksum {
             Checksum::Sha1(bytes) => bytes,
             Checksum::Sha256(bytes) => bytes,
         }
+    }
+
+    /// The value of its header: the base64 of its bytes. It takes a bounded time, and no memory.
+    pub fn text(&self) -> ChecksumText
+        ensures { result ≡ encode_of standard (bytes_of self.now) }
+    {
+        ChecksumText::of(self.bytes())
     }
 }
 

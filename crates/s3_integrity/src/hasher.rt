@@ -1,12 +1,13 @@
 //! A message whose checksum is to be compared.
 ghost use Rattle.std.specs.Prelude.{◌≡◌, ◌≢◌, false, List, [], ◌++◌, ℕ};
 ghost use Rattle.s3_integrity.specs.Hasher.{Holds};
-ghost use Rattle.s3_integrity.specs.Sum.{algorithm_of, has_sum};
+ghost use Rattle.s3_integrity.specs.Sum.{algorithm_of, has_sum, sum_of, with_bytes};
 
 use crate::running::Running;
 use crate::{Checksum, ChecksumAlgorithm};
 
-/// A message that comes in pieces, of which one kind of checksum is wanted: `new`, an `update` for each piece, and `is_met`.
+/// A message that comes in pieces, of which one kind of checksum is wanted: `new`, an `update` for each piece, and `is_met` or
+/// `sum`.
 #[derive(Drop)]
 pub struct ChecksumHasher {
     running: Running,
@@ -30,6 +31,15 @@ impl ChecksumHasher {
             → Holds self.new algorithm (message ++ piece.now) }
     {
         self.running.update(piece);
+    }
+
+    /// The checksum of the message so far, which may go on after that. It takes a bounded time, and no memory.
+    #[tactic(auto, unfolding(crate::specs::Hasher::Holds))]
+    pub fn sum(&self) -> Checksum
+        ensures { (algorithm : ChecksumAlgorithm) (message : List ℕ) → Holds self.now algorithm message
+            → result ≡ with_bytes algorithm (sum_of algorithm message) }
+    {
+        self.running.sum()
     }
 
     /// Whether the message so far has this checksum; it hasn't where the hasher is of another kind. The message may go on

@@ -5,6 +5,7 @@
 
 mod algorithm;
 mod checksum;
+mod checksum_text;
 mod hasher;
 mod laws;
 mod running;
@@ -13,5 +14,6 @@ mod tests;
 
 pub use algorithm::ChecksumAlgorithm;
 pub use checksum::Checksum;
+pub use checksum_text::ChecksumText;
 pub use hasher::ChecksumHasher;
 pub use laws::checksums_are_encoded;

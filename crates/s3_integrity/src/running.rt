@@ -5,9 +5,9 @@ ghost use Rattle.sha1.specs.Sha1.{Holds as HoldsSha1, sha1};
 ghost use Rattle.sha2.specs.Hashers.{Holds256};
 ghost use Rattle.sha2.specs.Sha256.{sha256};
 ghost use Rattle.s3_integrity.specs.Hasher.{HasTaken, kind_of};
-ghost use Rattle.s3_integrity.specs.Sum.{sum_of};
+ghost use Rattle.s3_integrity.specs.Sum.{sum_of, with_bytes};
 
-use crate::ChecksumAlgorithm;
+use crate::{Checksum, ChecksumAlgorithm};
 use s3_checksums::{Crc32, Crc32c, Crc64Nvme};
 use sha1::Sha1;
 use sha2::{Digest, Sha256};
@@ -66,40 +66,49 @@ impl Running {
         }
     }
 
-    // Whether the bytes are those of the message's checksum.
+    // The message's checksum.
     #[tactic(auto, unfolding(crate::specs::Hasher::HasTaken, crate::specs::Sum::sum_of))]
+    pub(crate) fn sum(&self) -> Checksum
+        ensures { (message : List ℕ) → HasTaken self.now message
+            → result ≡ with_bytes (kind_of self.now) (sum_of (kind_of self.now) message) }
+    {
+        match self {
+            Running::Crc32(hasher) => Checksum::Crc32(hasher.finish().to_be_bytes()),
+            Running::Crc32c(hasher) => Checksum::Crc32c(hasher.finish().to_be_bytes()),
+            Running::Crc64Nvme(hasher) => Checksum::Crc64Nvme(hasher.finish().to_be_bytes()),
+            Running::Sha1(hasher) => Checksum::Sha1(sha1_in(hasher)),
+            Running::Sha256(hasher) => Checksum::Sha256(sha256_in(hasher)),
+        }
+    }
+
+    // Whether the bytes are those of the message's checksum.
+    #[tactic(auto, using(crate::proofs::SumLemmas::bytes_made))]
     pub(crate) fn has(&self, bytes: &[u8]) -> bool
         ensures { (message : List ℕ) → HasTaken self.now message
             → result ≡ bytes_eq (sum_of (kind_of self.now) message) bytes.now }
     {
-        match self {
-            Running::Crc32(hasher) => hasher.finish().to_be_bytes().as_slice() == bytes,
-            Running::Crc32c(hasher) => hasher.finish().to_be_bytes().as_slice() == bytes,
-            Running::Crc64Nvme(hasher) => hasher.finish().to_be_bytes().as_slice() == bytes,
-            Running::Sha1(hasher) => has_sha1(hasher, bytes),
-            Running::Sha256(hasher) => has_sha256(hasher, bytes),
-        }
+        self.sum().bytes() == bytes
     }
 }
 
-// The same of SHA-1.
-fn has_sha1(hasher: &Sha1, bytes: &[u8]) -> bool
-    ensures { (message : List ℕ) → HoldsSha1 hasher.now message → result ≡ bytes_eq (sha1 message) bytes.now }
+// That of SHA-1.
+fn sha1_in(hasher: &Sha1) -> [u8; 20]
+    ensures { (message : List ℕ) → HoldsSha1 hasher.now message → result ≡ sha1 message }
 {
     let Ok(hasher) = hasher.clone() else {
         // A hasher has no memory of its own, so its copy needs none.
         unreachable!()
     };
-    hasher.finalize().as_slice() == bytes
+    hasher.finalize()
 }
 
 // And of SHA-256.
-fn has_sha256(hasher: &Sha256, bytes: &[u8]) -> bool
-    ensures { (message : List ℕ) → Holds256 hasher.now message → result ≡ bytes_eq (sha256 message) bytes.now }
+fn sha256_in(hasher: &Sha256) -> [u8; 32]
+    ensures { (message : List ℕ) → Holds256 hasher.now message → result ≡ sha256 message }
 {
     let Ok(hasher) = hasher.clone() else {
         // Likewise.
         unreachable!()
     };
-    hasher.finalize().as_slice() == bytes
+    hasher.finalize()
 }

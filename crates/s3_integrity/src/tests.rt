@@ -1,15 +1,20 @@
 //! The values that the standards publish.
 use crate::{Checksum, ChecksumAlgorithm, ChecksumHasher};
 
-// Whether "123456789", which comes in two pieces, has the checksum that the value of the header of this name says; `None`
-// where no kind's header has the name, or the value can't be read.
+// Whether the checksum of a message is told by this text.
+fn is_told(hasher: &ChecksumHasher, text: &[u8]) -> bool {
+    hasher.sum().text().as_bytes() == text
+}
+
+// Whether "123456789", which comes in two pieces, has the checksum that the value of the header of this name says, and is told
+// so; `None` where no kind's header has the name, or the value can't be read.
 fn is_met(name: &[u8], text: &[u8]) -> Option<bool> {
     let algorithm = ChecksumAlgorithm::named(ChecksumAlgorithm::named(name)?.header())?;
     let sum = Checksum::read(algorithm, text)?;
     let mut hasher = ChecksumHasher::new(sum.algorithm());
     hasher.update(b"1234");
     hasher.update(b"56789");
-    Some(hasher.is_met(&sum))
+    Some(hasher.is_met(&sum) && is_told(&hasher, text))
 }
 
 #[test]

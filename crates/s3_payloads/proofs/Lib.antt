@@ -4,6 +4,7 @@ pub mod WholeLemmas
 pub mod StandsLemmas
 pub mod ChunkLemmas
 pub mod SummedLemmas
+pub mod FoundSumLemmas
 pub mod EitherLemmas
 pub mod TrailedLemmas
 pub mod TrailedForLemmas

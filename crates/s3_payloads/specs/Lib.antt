@@ -1,4 +1,5 @@
 pub mod Form
+pub mod FoundSum
 pub mod Outcome
 pub mod Verdict
 pub mod Whole

@@ -2,8 +2,9 @@
 
 ghost use Rattle.std.specs.Prelude.{◌≡◌, ◌≤◌, ◌+◌, ℕ, Bool, false, List, [], length, Err, IfErr, IfOk};
 ghost use Rattle.s3_aws_chunked.specs.Reader.{said_at_end};
-ghost use Rattle.s3_aws_chunked.specs.Verdict.{accepts};
+ghost use Rattle.s3_aws_chunked.specs.Verdict.{Accepted, accepts};
 ghost use Rattle.s3_payloads.specs.Form.{Announced, announced_payload};
+ghost use Rattle.s3_payloads.specs.FoundSum.{found_sum};
 ghost use Rattle.s3_payloads.specs.Outcome.{finished};
 ghost use Rattle.s3_payloads.specs.Reader.{ModeStands};
 
@@ -15,6 +16,7 @@ use crate::whole::WholeReader;
 use s3_bodies::Payload;
 use s3_config::Config;
 use s3_http_heads::Head;
+use s3_integrity::Checksum;
 use s3_signing::Verified;
 use s3_terms::Code;
 use std::alloc::Global;
@@ -168,6 +170,20 @@ impl PayloadReader {
             Mode::Whole(whole) => whole.end(),
             Mode::Chunks(chunks) => chunks.end(),
             Mode::Trailed(trailed) => trailed.end(),
+        }
+    }
+
+    /// The checksum of a body that is whole and right: of the kind that its head says by a line, or announces as its trailer.
+    /// It takes a bounded time, and no memory.
+    #[tactic(auto, using(crate::proofs::FoundSumLemmas::sum_found))]
+    pub fn sum(&self) -> Option<Checksum>
+        ensures { (announced : Announced) (bytes payload : List ℕ) (ended : Bool) → Stands self.now announced bytes ended
+            → verdict_of self.now ≡ Accepted payload → result ≡ found_sum announced.form payload }
+    {
+        match &self.mode {
+            Mode::Whole(whole) => whole.sum(),
+            Mode::Chunks(_) => None,
+            Mode::Trailed(trailed) => Some(trailed.sum()),
         }
     }
 

@@ -1,8 +1,9 @@
 //! The checksum of a body, as its bytes arrive.
 
-ghost use Rattle.std.specs.Prelude.{◌≡◌, ◌++◌, ℕ, List, []};
+ghost use Rattle.std.specs.Prelude.{◌≡◌, ◌++◌, ℕ, List, [], option_map};
 ghost use Rattle.s3_integrity.specs.Hasher.{Holds};
-ghost use Rattle.s3_integrity.specs.Sum.{algorithm_of, has_sum};
+ghost use Rattle.s3_integrity.specs.Sum.{algorithm_of, has_sum, sum_of, with_bytes};
+ghost use Rattle.s3_payloads.specs.FoundSum.{sum_by};
 ghost use Rattle.s3_payloads.specs.Whole.{SumsUp, sum_told};
 
 use s3_integrity::{Checksum, ChecksumHasher};
@@ -52,6 +53,24 @@ impl RunningSum {
             → result ≡ has_sum self.now.told bytes }
     {
         self.running.is_met(&self.told)
+    }
+
+    // The checksum of the bytes so far, of the kind that is told.
+    fn sum(&self) -> Checksum
+        ensures { (bytes : List ℕ) → Holds self.now.running (algorithm_of self.now.told) bytes
+            → result ≡ with_bytes (algorithm_of self.now.told) (sum_of (algorithm_of self.now.told) bytes) }
+    {
+        self.running.sum()
+    }
+}
+
+// The same, where one is told.
+pub(crate) fn sum_of_bytes(sum: &Option<RunningSum>) -> Option<Checksum>
+    ensures { (bytes : List ℕ) → SumsUp sum.now bytes → result ≡ sum_by (option_map algorithm_of (sum_told sum.now)) bytes }
+{
+    match sum {
+        Some(sum) => Some(sum.sum()),
+        None => None,
     }
 }
 

@@ -1,6 +1,7 @@
 //! The data of a body, as it arrives, with the checksum that runs over it.
 
 ghost use Rattle.std.specs.Prelude.{◌≡◌, ◌<◌, [], ◌++◌, length, MatchResult, OnErr};
+ghost use Rattle.s3_integrity.specs.Sum.{sum_of, with_bytes};
 ghost use Rattle.s3_payloads.specs.Summed.{fault_in, marked};
 ghost use Rattle.s3_payloads.specs.Verdict.{trailed_data};
 
@@ -55,6 +56,13 @@ impl SummedData {
         } else {
             Some(Code::BadDigest)
         }
+    }
+
+    // The checksum of the data so far.
+    pub(crate) fn sum(&self) -> Checksum
+        ensures { result ≡ with_bytes self.now.algorithm (sum_of self.now.algorithm self.now.bytes) }
+    {
+        self.hasher.sum()
     }
 
     // The payload of the data, which is moved and not copied.

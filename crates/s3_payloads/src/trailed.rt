@@ -3,6 +3,7 @@
 ghost use Rattle.std.specs.Prelude.{◌≡◌, ℕ, ◌+◌, ◌≤◌, true, false, List, [], ◌++◌, length, Err, IfErr, IfOk};
 ghost use Rattle.s3_aws_chunked.specs.Reader.{said_at_end};
 ghost use Rattle.s3_aws_chunked.specs.Verdict.{accepts};
+ghost use Rattle.s3_integrity.specs.Sum.{sum_of, with_bytes};
 ghost use Rattle.s3_payloads.specs.EitherChunks.{ChunksFailed, ChunksStand, chunks_by, chunks_lost, chunks_taken};
 ghost use Rattle.s3_payloads.specs.Verdict.{TrailerTerms as Terms};
 ghost use Rattle.s3_payloads.specs.Outcome.{EndedTo, FedTo, finished, part_of};
@@ -11,7 +12,7 @@ ghost use Rattle.s3_payloads.specs.Trailed.{TrailedAreShort, TrailedAreWhole, Tr
 use crate::either_chunks::{EitherChunks, either_chunks_are_judged};
 use crate::summed_data::SummedData;
 use s3_bodies::Payload;
-use s3_integrity::ChecksumAlgorithm;
+use s3_integrity::{Checksum, ChecksumAlgorithm};
 use s3_terms::Code;
 use std::alloc::Global;
 
@@ -137,6 +138,13 @@ impl TrailedReader {
             Some(_) => false,
             None => self.chunks.is_whole(),
         }
+    }
+
+    // The checksum of the data so far.
+    pub(crate) fn sum(&self) -> Checksum
+        ensures { result ≡ with_bytes self.now.summed.algorithm (sum_of self.now.summed.algorithm self.now.summed.bytes) }
+    {
+        self.summed.sum()
     }
 
     // How many bytes of the body were taken.

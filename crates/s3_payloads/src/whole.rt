@@ -1,6 +1,8 @@
 //! The reader of a body that is sent as it is.
 
-ghost use Rattle.std.specs.Prelude.{◌≡◌, ◌≤◌, ◌++◌, length, None, Some, Ok, Err, false, OnOk, OnErr, IfOk, IfErr, Bool, List, [], ℕ, ◌+◌, ◌<◌, take, Option};
+ghost use Rattle.std.specs.Prelude.{◌≡◌, ◌≤◌, ◌++◌, length, None, Some, Ok, Err, false, OnOk, OnErr, IfOk, IfErr, Bool, List, [], ℕ, ◌+◌, ◌<◌, take, Option, option_map};
+ghost use Rattle.s3_integrity.specs.Sum.{algorithm_of};
+ghost use Rattle.s3_payloads.specs.FoundSum.{sum_by};
 ghost use Rattle.s3_payloads.specs.declared.form.Digests.{Digests as Told};
 ghost use Rattle.s3_aws_chunked.specs.Reader.{said_at_end};
 ghost use Rattle.s3_aws_chunked.specs.Verdict.{accepts};
@@ -10,8 +12,9 @@ ghost use Rattle.s3_payloads.specs.Whole.{WholeEnded, WholeFed, WholeStands, End
 
 use crate::form::Digests;
 use crate::running_hash::RunningHash;
-use crate::running_sum::{RunningSum, add_to_sum};
+use crate::running_sum::{RunningSum, add_to_sum, sum_of_bytes};
 use s3_bodies::{Payload, PayloadBuilder, Sink};
+use s3_integrity::Checksum;
 use s3_terms::{Code, NoMemory};
 use std::alloc::Global;
 use std::marker::Model;
@@ -270,6 +273,13 @@ impl WholeReader {
             Stage::Passed => true,
             Stage::Reading | Stage::Failed(_) => false,
         }
+    }
+
+    // The checksum of the bytes so far, of the kind that is told.
+    pub(crate) fn sum(&self) -> Option<Checksum>
+        ensures { result ≡ sum_by (option_map algorithm_of self.now.digests.checksum) self.now.bytes }
+    {
+        sum_of_bytes(&self.sum)
     }
 
     // How many bytes of the body were taken.

@@ -7,10 +7,15 @@ use Rattle.std.proofs.lemmas.List.Concat.{flat_map-append}
 use Rattle.s3_text.specs.Characters.{crlf, space}
 use Rattle.s3_terms.specs.declared.status.Status.{Status}
 use Rattle.s3_terms.specs.Status.{number_of, reason_phrase}
+use Rattle.s3_integrity.specs.Algorithm.{header_of}
+use Rattle.s3_integrity.specs.Sum.{algorithm_of}
+use Rattle.s3_integrity.specs.declared.algorithm.ChecksumAlgorithm.{ChecksumAlgorithm}
+use Rattle.s3_integrity.specs.declared.algorithm.ChecksumAlgorithm.TheVariants.{Crc32, Crc32c, Crc64Nvme, Sha1, Sha256}
+use Rattle.s3_integrity.specs.declared.checksum.Checksum.{Checksum}
 use Rattle.s3_versions.specs.Metadata.{Entry, metadata_size}
 use Rattle.s3_replies.specs.declared.lines.Entries.{Entries}
-use Rattle.s3_replies.specs.declared.lines.Entries.TheVariants.{All, Freshness}
-use Rattle.s3_replies.specs.Lines.{Line, print_lines, metadata_line, is_overridden, entries_left, type_left, value_length, entries_told, told_of, all_told, freshness_entries, tells_freshness, quoted, status_line}
+use Rattle.s3_replies.specs.declared.lines.Entries.TheVariants.{All, ButChecksums, Freshness}
+use Rattle.s3_replies.specs.Lines.{Line, print_lines, metadata_line, is_overridden, entries_left, type_left, value_length, entries_told, told_of, all_told, freshness_entries, other_entries, tells_checksum, tells_freshness, quoted, status_line}
 
 -- some lines, and some more behind them
 pub more_lines : (start : List ℕ) (lines more : List Line) → start ++ print_lines lines ++ print_lines more ≡ start ++ print_lines (lines ++ more)
@@ -40,16 +45,22 @@ pub quoted_parts : (start n m v e name text : List ℕ) → n ≡ start ++ name 
 unfolding print_lines
 quoted_parts start n m v e name text named middle valued end = rw (end, valued, middle, named) (simp append_assoc)
 
--- so is that of an entry of metadata
-pub entry_parts : (start n m v e : List ℕ) (entry : Entry) → n ≡ start ++ entry.name → m ≡ n ++ codes ": "
-    → v ≡ m ++ entry.value → e ≡ v ++ crlf → e ≡ start ++ print_lines (metadata_line entry ∷ [])
-entry_parts start n m v e entry named middle valued end = line_parts start n m v e entry.name entry.value named middle valued end
+-- the name of a checksum's line is short
+pub short_name : (sum : Checksum) (name : List ℕ) → name ≡ header_of (algorithm_of sum) → length name ≤ 24
+short_name sum name is = named (algorithm_of sum) (ap length is) where
+  named : (algorithm : ChecksumAlgorithm) → length name ≡ length (header_of algorithm) → length name ≤ 24
+  named Crc32 same = omega (arith, same)
+  named Crc32c same = omega (arith, same)
+  named Crc64Nvme same = omega (arith, same)
+  named Sha1 same = omega (arith, same)
+  named Sha256 same = omega (arith, same)
 
 -- no entries have no lines
 pub no_entries : (start : List ℕ) (tells : Entries) (overrides entries : List Entry) → length entries < 1
     → start ≡ start ++ print_lines (map metadata_line (told_of tells overrides entries))
 unfolding print_lines
 no_entries start All overrides [] none = sym (append-nil start)
+no_entries start ButChecksums overrides [] none = sym (append-nil start)
 no_entries start Freshness overrides [] none = sym (append-nil start)
 no_entries start tells overrides (entry ∷ entries) none = absurd (omega (arith, none))
 
@@ -65,11 +76,18 @@ one_kept false entry entries = refl
 fresh_entries : (entries more : List Entry) → freshness_entries (entries ++ more) ≡ freshness_entries entries ++ freshness_entries more
 fresh_entries entries more = filter-append tells_freshness entries more
 
+others_joined : (entries more : List Entry) → other_entries (entries ++ more) ≡ other_entries entries ++ other_entries more
+others_joined entries more = filter-append (λ (entry : Entry). not (tells_checksum entry)) entries more
+
 -- those that are told are those of the first one and those of the rest
 told_entries : (tells : Entries) (overrides entries : List Entry) (entry : Entry) (rest : List Entry) → entries ≡ entry ∷ rest
     → told_of tells overrides entries ≡ told_of tells overrides (entry ∷ []) ++ told_of tells overrides rest
 told_entries All overrides entries entry rest split =
     ap (entries_left overrides) split ∙ one_kept (not (is_overridden overrides entry.name)) entry (entries_left overrides rest)
+told_entries ButChecksums overrides entries entry rest split =
+    ap (λ (es : List Entry). other_entries (entries_left overrides es)) split
+    ∙ ap other_entries (one_kept (not (is_overridden overrides entry.name)) entry (entries_left overrides rest))
+    ∙ others_joined (entries_left overrides (entry ∷ [])) (entries_left overrides rest)
 told_entries Freshness overrides entries entry rest split =
     ap (λ (es : List Entry). freshness_entries (entries_left overrides es)) split
     ∙ ap freshness_entries (one_kept (not (is_overridden overrides entry.name)) entry (entries_left overrides rest))
@@ -134,7 +152,7 @@ kept_count : (is : Bool) (entry : Entry) (kept all : List Entry) → length kept
 kept_count true entry kept all fits = omega (arith, fits)
 kept_count false entry kept all fits = omega (arith, fits)
 
--- those that are left, and those that tell of freshness, are no more than there are, and no larger
+-- those that are left, those that tell no checksum, and those that tell of freshness, are no more than there are, and no larger
 size-left : (overrides entries : List Entry) → metadata_size (entries_left overrides entries) ≤ metadata_size entries
 size-left overrides [] = omega arith
 size-left overrides (entry ∷ entries) =
@@ -144,6 +162,14 @@ count-left : (overrides entries : List Entry) → length (entries_left overrides
 count-left overrides [] = omega arith
 count-left overrides (entry ∷ entries) =
     kept_count (not (is_overridden overrides entry.name)) entry (entries_left overrides entries) entries (count-left overrides entries)
+
+size-others : (entries : List Entry) → metadata_size (other_entries entries) ≤ metadata_size entries
+size-others [] = omega arith
+size-others (entry ∷ entries) = kept_size (not (tells_checksum entry)) entry (other_entries entries) entries (size-others entries)
+
+count-others : (entries : List Entry) → length (other_entries entries) ≤ length entries
+count-others [] = omega arith
+count-others (entry ∷ entries) = kept_count (not (tells_checksum entry)) entry (other_entries entries) entries (count-others entries)
 
 size-freshness : (entries : List Entry) → metadata_size (freshness_entries entries) ≤ metadata_size entries
 size-freshness [] = omega arith
@@ -158,6 +184,17 @@ pub size-told : (tells : Entries) (overrides entries : List Entry) → metadata_
     → metadata_size (all_told tells overrides entries) ≤ 6_656
 size-told All overrides entries kept set =
     omega (arith, size-append (entries_left overrides entries) overrides, size-left overrides entries, kept, set)
+size-told ButChecksums overrides entries kept set =
+    let left = entries_left overrides entries in
+    omega (
+      arith,
+      size-append (other_entries left) (other_entries overrides),
+      size-others left,
+      size-left overrides entries,
+      size-others overrides,
+      kept,
+      set,
+    )
 size-told Freshness overrides entries kept set =
     let left = entries_left overrides entries in
     omega (
@@ -174,6 +211,17 @@ pub count-told : (tells : Entries) (overrides entries : List Entry) → length e
     → length (all_told tells overrides entries) ≤ 70
 count-told All overrides entries kept set =
     omega (arith, length-append (entries_left overrides entries) overrides, count-left overrides entries, kept, set)
+count-told ButChecksums overrides entries kept set =
+    let left = entries_left overrides entries in
+    omega (
+      arith,
+      length-append (other_entries left) (other_entries overrides),
+      count-others left,
+      count-left overrides entries,
+      count-others overrides,
+      kept,
+      set,
+    )
 count-told Freshness overrides entries kept set =
     let left = entries_left overrides entries in
     omega (

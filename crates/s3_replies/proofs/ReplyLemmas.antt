@@ -26,10 +26,10 @@ use Rattle.s3_machine.specs.declared.command.Outcome.{Outcome}
 use Rattle.s3_machine.specs.declared.command.Outcome.TheVariants.{BucketFound, Got, Refused}
 use Rattle.s3_replies.specs.declared.context.Context.{Context}
 use Rattle.s3_replies.specs.declared.head.Opening.{Opening}
-use Rattle.s3_replies.specs.Lines.{Line, status_line, print_line, print_lines, flag, optional, metadata_line, is_overridden, entries_left, type_left, quoted}
+use Rattle.s3_replies.specs.Lines.{Line, status_line, print_line, print_lines, flag, optional, metadata_line, is_overridden, entries_left, other_entries, tells_checksum, type_left, quoted}
 use Rattle.s3_replies.specs.Date.{IsHttpDate, IsDateShown}
 use Rattle.s3_replies.specs.Head.{bare, body_lines, opening_lines, version_lines, print_head, print_with_lines}
-use Rattle.s3_replies.specs.Replies.{Reply, alone, beside, behind, front, back, reply_to, shown_at, opening_of, Prints, content_range, found_fields, got_fields, metadata_shown, part, part_fields, region_told, sent_body, sized, shown_text, status_in}
+use Rattle.s3_replies.specs.Replies.{Reply, alone, beside, behind, front, back, reply_to, shown_at, opening_of, Prints, content_range, found_fields, got_fields, metadata_shown, part, part_fields, sent_body, sized, shown_text, status_in}
 use Rattle.s3_replies.specs.Statuses.{reply_status}
 use Rattle.s3_replies.specs.Laws.{AreUnbroken, Carries, CarriesPart, IsUnbroken, is_unbroken, is_whole_line, tells_success, SuccessIsShown, ObjectsAreCarried, PartsAreCarried, RegionsAreTold, TellsRegion, HeadsTellOfReplies}
 use Rattle.s3_replies.proofs.UnbrokenLemmas.{both_true, joined, lines_joined, decimal_unbroken, number_unbroken, id_unbroken, date_unbroken, range_unbroken}
@@ -130,17 +130,17 @@ flag_unbroken true = refl
 flag_unbroken false = refl
 
 -- the lines that tell of an object's body, in front of its size
-abbrev told : Data (List ℕ) → List Entry → Option (List ℕ) → List Line
-told stored overrides range =
+abbrev told : Bool → Data (List ℕ) → List Entry → Option (List ℕ) → List Line
+told sums stored overrides range =
     (codes "Accept-Ranges", codes "bytes")
     ∷ (optional (codes "Content-Range") range
     ++ optional (codes "Content-Type") (type_left overrides stored.content_type)
-    ++ map metadata_line (metadata_shown overrides stored.metadata))
+    ++ map metadata_line (metadata_shown sums overrides stored.metadata))
 
 -- all lines in front of its size
-abbrev lines_in_front : Opening → Found (List ℕ) → List Entry → List ℕ → Option (List ℕ) → List Line
-lines_in_front opening found overrides modified range =
-    let head = got_fields opening found overrides (Some modified) in opening_lines head ++ version_lines head ++ told found.stored overrides range
+abbrev lines_in_front : Bool → Opening → Found (List ℕ) → List Entry → List ℕ → Option (List ℕ) → List Line
+lines_in_front sums opening found overrides modified range =
+    let head = got_fields sums opening found overrides (Some modified) in opening_lines head ++ version_lines head ++ told sums found.stored overrides range
 
 id_line_unbroken : (shown : Option VersionId) → list_all is_whole_line (optional (codes "x-amz-version-id") (shown_text shown)) ≡ true
 id_line_unbroken None = refl
@@ -159,9 +159,9 @@ opening_unbroken opening at =
     lines_joined (first ++ keeps) id (lines_joined first keeps (rw at refl) (flag_unbroken opening.closes)) (rw (number_unbroken opening.number) refl)
 
 -- the lines that tell of a version
-version_unbroken : (opening : Opening) (found : Found (List ℕ)) (overrides : List Entry) (modified : List ℕ) → IsUnbroken found.stored → is_unbroken modified ≡ true
-    → list_all is_whole_line (version_lines (got_fields opening found overrides (Some modified))) ≡ true
-version_unbroken opening found overrides modified unbroken since =
+version_unbroken : (sums : Bool) (opening : Opening) (found : Found (List ℕ)) (overrides : List Entry) (modified : List ℕ) → IsUnbroken found.stored → is_unbroken modified ≡ true
+    → list_all is_whole_line (version_lines (got_fields sums opening found overrides (Some modified))) ≡ true
+version_unbroken sums opening found overrides modified unbroken since =
     let id = optional (codes "x-amz-version-id") (shown_text found.shown) in
     let tag : List Line = (codes "ETag", quoted found.stored.tag) ∷ [] in
     let made : List Line = (codes "Last-Modified", modified) ∷ [] in
@@ -170,7 +170,8 @@ version_unbroken opening found overrides modified unbroken since =
     let no_marker = lines_joined (id ++ []) [] no_source refl in
     let no_region = lines_joined (id ++ [] ++ []) [] no_marker refl in
     let no_place = lines_joined (id ++ [] ++ [] ++ []) [] no_region refl in
-    lines_joined (id ++ [] ++ [] ++ [] ++ [] ++ tag) made (lines_joined (id ++ [] ++ [] ++ [] ++ []) tag no_place (rw quotes refl)) (rw since refl)
+    let tagged = lines_joined (id ++ [] ++ [] ++ [] ++ []) tag no_place (rw quotes refl) in
+    lines_joined (id ++ [] ++ [] ++ [] ++ [] ++ tag ++ []) made (lines_joined (id ++ [] ++ [] ++ [] ++ [] ++ tag) [] tagged refl) (rw since refl)
 
 -- the line that tells of its type, where it is told
 type_unbroken : (overridden : Bool) (kind : List ℕ) → is_unbroken kind ≡ true
@@ -192,48 +193,63 @@ left_unbroken overrides (entry ∷ entries) all =
     left_line (not (is_overridden overrides entry.name)) entry (entries_left overrides entries) parts.0
     (left_unbroken overrides entries parts.1)
 
+others_unbroken : (entries : List Entry) → list_all is_whole_line (map metadata_line entries) ≡ true
+    → list_all is_whole_line (map metadata_line (other_entries entries)) ≡ true
+others_unbroken [] all = refl
+others_unbroken (entry ∷ entries) all =
+    let parts = both_true (is_whole_line (metadata_line entry)) (list_all is_whole_line (map metadata_line entries)) all in
+    left_line (not (tells_checksum entry)) entry (other_entries entries) parts.0 (others_unbroken entries parts.1)
+
+entries_joined : (entries more : List Entry) → list_all is_whole_line (map metadata_line entries) ≡ true
+    → list_all is_whole_line (map metadata_line more) ≡ true
+    → list_all is_whole_line (map metadata_line (entries ++ more)) ≡ true
+entries_joined entries more all rest =
+    ap (list_all is_whole_line) (map-append metadata_line entries more)
+    ∙ lines_joined (map metadata_line entries) (map metadata_line more) all rest
+
 -- those that tell of its metadata, and of what stands in the place of some of that
-shown_unbroken : (overrides entries : List Entry) → list_all is_whole_line (map metadata_line entries) ≡ true → AreUnbroken overrides
-    → list_all is_whole_line (map metadata_line (metadata_shown overrides entries)) ≡ true
-shown_unbroken overrides entries all set =
-    ap (list_all is_whole_line) (map-append metadata_line (entries_left overrides entries) overrides)
-    ∙ lines_joined (map metadata_line (entries_left overrides entries)) (map metadata_line overrides) (left_unbroken overrides entries all) set
+shown_unbroken : (sums : Bool) (overrides entries : List Entry) → list_all is_whole_line (map metadata_line entries) ≡ true → AreUnbroken overrides
+    → list_all is_whole_line (map metadata_line (metadata_shown sums overrides entries)) ≡ true
+shown_unbroken true overrides entries all set = entries_joined (entries_left overrides entries) overrides (left_unbroken overrides entries all) set
+shown_unbroken false overrides entries all set =
+    let left = entries_left overrides entries in
+    entries_joined (other_entries left) (other_entries overrides) (others_unbroken left (left_unbroken overrides entries all)) (others_unbroken overrides set)
 
 -- the lines that tell of its body
-told_unbroken : (stored : Data (List ℕ)) (overrides : List Entry) (range : Option (List ℕ)) → IsUnbroken stored → AreUnbroken overrides
-    → all_unbroken range ≡ true → list_all is_whole_line (told stored overrides range) ≡ true
-told_unbroken stored overrides range unbroken set are =
+told_unbroken : (sums : Bool) (stored : Data (List ℕ)) (overrides : List Entry) (range : Option (List ℕ)) → IsUnbroken stored → AreUnbroken overrides
+    → all_unbroken range ≡ true → list_all is_whole_line (told sums stored overrides range) ≡ true
+told_unbroken sums stored overrides range unbroken set are =
     let ranged = optional (codes "Content-Range") range in
     let kind = optional (codes "Content-Type") (type_left overrides stored.content_type) in
-    lines_joined (ranged ++ kind) (map metadata_line (metadata_shown overrides stored.metadata))
+    lines_joined (ranged ++ kind) (map metadata_line (metadata_shown sums overrides stored.metadata))
     (lines_joined ranged kind (range_line_unbroken range are)
     (type_unbroken (is_overridden overrides (codes "content-type")) stored.content_type unbroken.content_type))
-    (shown_unbroken overrides stored.metadata unbroken.metadata set)
+    (shown_unbroken sums overrides stored.metadata unbroken.metadata set)
 
 date_is_unbroken : (t : ℕ) (date : List ℕ) → IsHttpDate t date → is_unbroken date ≡ true
 date_is_unbroken t date is = ap is_unbroken is.2 ∙ date_unbroken is.0.parts
 
 -- the lines in front of the size
-front_unbroken : (opening : Opening) (found : Found (List ℕ)) (overrides : List Entry) (modified : List ℕ) (range : Option (List ℕ)) → is_unbroken opening.date ≡ true → is_unbroken modified ≡ true
-    → IsUnbroken found.stored → AreUnbroken overrides → all_unbroken range ≡ true → list_all is_whole_line (lines_in_front opening found overrides modified range) ≡ true
-front_unbroken opening found overrides modified range at since unbroken set are =
-    let head = got_fields opening found overrides (Some modified) in
-    lines_joined (opening_lines head ++ version_lines head) (told found.stored overrides range)
-    (lines_joined (opening_lines head) (version_lines head) (opening_unbroken opening at) (version_unbroken opening found overrides modified unbroken since))
-    (told_unbroken found.stored overrides range unbroken set are)
+front_unbroken : (sums : Bool) (opening : Opening) (found : Found (List ℕ)) (overrides : List Entry) (modified : List ℕ) (range : Option (List ℕ)) → is_unbroken opening.date ≡ true → is_unbroken modified ≡ true
+    → IsUnbroken found.stored → AreUnbroken overrides → all_unbroken range ≡ true → list_all is_whole_line (lines_in_front sums opening found overrides modified range) ≡ true
+front_unbroken sums opening found overrides modified range at since unbroken set are =
+    let head = got_fields sums opening found overrides (Some modified) in
+    lines_joined (opening_lines head ++ version_lines head) (told sums found.stored overrides range)
+    (lines_joined (opening_lines head) (version_lines head) (opening_unbroken opening at) (version_unbroken sums opening found overrides modified unbroken since))
+    (told_unbroken sums found.stored overrides range unbroken set are)
 
 -- the head of a reply that carries bytes of a version, and these bytes behind it
-object_printed : (opening : Opening) (found : Found (List ℕ)) (overrides : List Entry) (modified : List ℕ) (range : Option (List ℕ)) (size : ℕ) (body : List ℕ) → tells_size opening.status ≡ true
-    → print_head (record (got_fields opening found overrides (Some modified)) { content_range = range; size = size }) ++ body
-    ≡ status_line opening.status ++ print_lines (lines_in_front opening found overrides modified range) ++ print_line (codes "Content-Length", decimal size) ++ crlf ++ body
+object_printed : (sums : Bool) (opening : Opening) (found : Found (List ℕ)) (overrides : List Entry) (modified : List ℕ) (range : Option (List ℕ)) (size : ℕ) (body : List ℕ) → tells_size opening.status ≡ true
+    → print_head (record (got_fields sums opening found overrides (Some modified)) { content_range = range; size = size }) ++ body
+    ≡ status_line opening.status ++ print_lines (lines_in_front sums opening found overrides modified range) ++ print_line (codes "Content-Length", decimal size) ++ crlf ++ body
 unfolding print_head
-object_printed opening found overrides modified range size body tells =
-    let head = got_fields opening found overrides (Some modified) in
+object_printed sums opening found overrides modified range size body tells =
+    let head = got_fields sums opening found overrides (Some modified) in
     let told_size : Line = (codes "Content-Length", decimal size) in
     let front = opening_lines head ++ version_lines head in
-    let whole = front ++ told found.stored overrides range in
-    ap (λ b. status_line opening.status ++ print_lines (front ++ (told found.stored overrides range ++ flag told_size.0 told_size.1 b)) ++ crlf ++ body) tells
-    ∙ ap (λ l. status_line opening.status ++ l ++ crlf ++ body) (ap print_lines (sym (append_assoc front (told found.stored overrides range) (told_size ∷ []))) ∙ last_line whole told_size)
+    let whole = front ++ told sums found.stored overrides range in
+    ap (λ b. status_line opening.status ++ print_lines (front ++ (told sums found.stored overrides range ++ flag told_size.0 told_size.1 b)) ++ crlf ++ body) tells
+    ∙ ap (λ l. status_line opening.status ++ l ++ crlf ++ body) (ap print_lines (sym (append_assoc front (told sums found.stored overrides range) (told_size ∷ []))) ∙ last_line whole told_size)
     ∙ ap (λ r. r ++ crlf ++ body) (sym (append_assoc (status_line opening.status) (print_lines whole) (print_line told_size)))
 
 -- the date of the version that is shown
@@ -242,15 +258,15 @@ modified_of t (Some date) is = (date, is, refl)
 modified_of t None is = absurd is
 
 got_carries : (opening : Opening) (found : Found (List ℕ)) (overrides : List Entry) (modified text : List ℕ) → opening.status ≡ statuses.Ok → is_unbroken opening.date ≡ true → is_unbroken modified ≡ true → IsUnbroken found.stored
-    → AreUnbroken overrides → text ≡ print_head (sized (got_fields opening found overrides (Some modified)) found.stored.body) ++ found.stored.body → Carries found.stored.body text
+    → AreUnbroken overrides → text ≡ print_head (sized (got_fields opening.tells_checksums opening found overrides (Some modified)) found.stored.body) ++ found.stored.body → Carries found.stored.body text
 unfolding status_line digits
 got_carries opening found overrides modified text status at since unbroken set is =
-    let lines = lines_in_front opening found overrides modified None in
+    let lines = lines_in_front opening.tells_checksums opening found overrides modified None in
     record {
       lines = lines;
-      whole = front_unbroken opening found overrides modified None at since unbroken set refl;
+      whole = front_unbroken opening.tells_checksums opening found overrides modified None at since unbroken set refl;
       printed = is
-          ∙ object_printed opening found overrides modified None (length found.stored.body) found.stored.body (ap tells_size status)
+          ∙ object_printed opening.tells_checksums opening found overrides modified None (length found.stored.body) found.stored.body (ap tells_size status)
           ∙ ap (λ s. status_line s ++ print_lines lines ++ print_line (codes "Content-Length", decimal (length found.stored.body)) ++ crlf ++ found.stored.body) status;
     }
 
@@ -260,15 +276,15 @@ part_carries : (opening : Opening) (found : Found (List ℕ)) (overrides : List 
 unfolding status_line digits
 part_carries opening found overrides modified first last text status at since unbroken set is =
     let range = content_range first last (length found.stored.body) in
-    let head = got_fields opening found overrides (Some modified) in
+    let head = got_fields false opening found overrides (Some modified) in
     let bytes = part first last found.stored.body in
-    let lines = lines_in_front opening found overrides modified (Some range) in
+    let lines = lines_in_front false opening found overrides modified (Some range) in
     record {
       lines = lines;
-      whole = front_unbroken opening found overrides modified (Some range) at since unbroken set (range_unbroken first last (length found.stored.body));
-      told = Contains-append_right (opening_lines head ++ version_lines head) (told found.stored overrides (Some range)) (codes "Content-Range", range) (1, omega arith, refl);
+      whole = front_unbroken false opening found overrides modified (Some range) at since unbroken set (range_unbroken first last (length found.stored.body));
+      told = Contains-append_right (opening_lines head ++ version_lines head) (told false found.stored overrides (Some range)) (codes "Content-Range", range) (1, omega arith, refl);
       printed = is
-          ∙ object_printed opening found overrides modified (Some range) (length bytes) bytes (ap tells_size status)
+          ∙ object_printed false opening found overrides modified (Some range) (length bytes) bytes (ap tells_size status)
           ∙ ap (λ s. status_line s ++ print_lines lines ++ print_line (codes "Content-Length", decimal (length bytes)) ++ crlf ++ bytes) status;
     }
 
@@ -286,8 +302,8 @@ objects_are_carried answer context text found overrides prints gives unbroken se
     let sent : sent_body context.head_only bytes ≡ bytes = rw whole refl in
     got_carries opening found overrides made.0 text refl (date_is_unbroken context.moment got.date got.dated) (date_is_unbroken found.moment made.0 made.1) unbroken set
     (got.printed
-    ∙ ap (λ b. print_head (sized (got_fields opening found overrides got.modified) bytes) ++ b) sent
-    ∙ ap (λ m. print_head (sized (got_fields opening found overrides m) bytes) ++ bytes) made.2)
+    ∙ ap (λ b. print_head (sized (got_fields opening.tells_checksums opening found overrides got.modified) bytes) ++ b) sent
+    ∙ ap (λ m. print_head (sized (got_fields opening.tells_checksums opening found overrides m) bytes) ++ bytes) made.2)
 
 pub parts_are_carried : PartsAreCarried
 parts_are_carried answer context text found overrides first last prints gives unbroken set whole =

@@ -8,7 +8,7 @@ use Rattle.s3_replies.specs.declared.head.Head.{Head}
 use Rattle.s3_replies.specs.declared.head.Opening.{Opening}
 use Rattle.s3_terms.specs.declared.status.Status.{Status}
 use Rattle.s3_terms.specs.Status.{tells_size}
-use Rattle.s3_replies.specs.Lines.{Line, status_line, print_lines, flag, optional, metadata_line, all_told, quoted, value_of, value_length, room_with}
+use Rattle.s3_replies.specs.Lines.{Line, checksum_line, line_if, line_room, status_line, print_lines, flag, optional, metadata_line, all_told, quoted, value_of, value_length, room_with}
 use Rattle.s3_versions.specs.Metadata.{Entry, metadata_size}
 
 -- what a head says, in the order of its lines
@@ -29,6 +29,8 @@ pub record Fields : Type 0 where
   pub location : Option (List ℕ)
   -- the tag, without its double quotes
   pub tag : Option (List ℕ)
+  -- the line that tells the checksum of what is stored
+  pub checksum : Option Line
   -- the date of HTTP at which the object was made
   pub modified : Option (List ℕ)
   pub accepts_ranges : Bool
@@ -52,6 +54,7 @@ fields_of head = record {
   region = value_of head.region;
   location = value_of head.location;
   tag = value_of head.tag;
+  checksum = option_map checksum_line head.checksum;
   modified = value_of head.modified;
   accepts_ranges = head.accepts_ranges;
   content_range = value_of head.content_range;
@@ -73,6 +76,7 @@ bare opening = record {
   region = None;
   location = None;
   tag = None;
+  checksum = None;
   modified = None;
   accepts_ranges = false;
   content_range = None;
@@ -99,6 +103,7 @@ version_lines head =
     ++ optional (codes "x-amz-bucket-region") head.region
     ++ optional (codes "Location") head.location
     ++ optional (codes "ETag") (option_map quoted head.tag)
+    ++ line_if head.checksum
     ++ optional (codes "Last-Modified") head.modified
 
 -- what is told of a body
@@ -134,11 +139,11 @@ pub record HasRoomFor (head : Fields) : Type 0 where
 
 -- how many bytes the lines that tell of a bucket, an object or its version take at most: 20, 32, 23, 12, 10 and 17 beside the values
 -- of `x-amz-version-id`, `x-amz-copy-source-version-id`, `x-amz-bucket-region`, `Location`, `ETag` and `Last-Modified`, where these
--- are there, and 27 for `x-amz-delete-marker`
+-- are there, 27 for `x-amz-delete-marker`, and 4 for the line of a checksum
 abbrev pub version_room : Fields → ℕ
 version_room head =
     room_with 20 head.version_id + room_with 32 head.source_version_id + 27 + room_with 23 head.region + room_with 12 head.location
-    + room_with 10 head.tag + room_with 17 head.modified
+    + room_with 10 head.tag + line_room head.checksum + room_with 17 head.modified
 
 -- how many bytes the lines that tell of a body take at most: 22 for `Accept-Ranges`, 17 and 16 beside the values of
 -- `Content-Range` and `Content-Type`, where these are there, 4 beside the name and the value of an entry of metadata, 38 for `Content-Length`

@@ -25,7 +25,7 @@ use Rattle.s3_terms.specs.declared.status.Status.TheVariants as statuses
 use Rattle.s3_replies.specs.Date.{IsHttpDate, IsDateShown}
 use Rattle.s3_replies.specs.Document.{content_type_in, error_document}
 use Rattle.s3_replies.specs.Head.{Fields, bare, print_head, print_with_lines}
-use Rattle.s3_replies.specs.Lines.{entries_left, type_left, freshness_entries}
+use Rattle.s3_replies.specs.Lines.{checksum_line, all_told, entries_by, entries_left, type_left, freshness_entries}
 use Rattle.s3_replies.specs.Statuses.{reply_status}
 
 -- what is sent of a body: a reply to HEAD has none (RFC 9110, section 9.3.2)
@@ -75,17 +75,23 @@ found_fields opening region = let base = bare opening in record base { region = 
 abbrev pub document_fields : Opening → Fields
 document_fields opening = let base = bare opening in record base { content_type = Some (content_type_in opening.dialect) }
 
--- PutObject and UploadPart: the tag of what is stored, and the id of its version; a part has none
+-- PutObject and UploadPart: the tag of what is stored, the checksum that was found of it, and the id of its version; a part has none
 abbrev pub put_fields : Opening → List ℕ → Option VersionId → Fields
-put_fields opening tag shown = let base = bare opening in record base { version_id = shown_text shown; tag = Some tag }
+put_fields opening tag shown =
+    let base = bare opening in
+    record base {
+      version_id = shown_text shown;
+      tag = Some tag;
+      checksum = option_map checksum_line opening.checksum;
+    }
 
--- the entries of metadata that are kept, and what stands in the place of some of them
-abbrev pub metadata_shown : List Entry → List Entry → List Entry
-metadata_shown overrides entries = entries_left overrides entries ++ overrides
+-- the entries of metadata that are kept, and what stands in the place of some of them: with checksums, or without
+abbrev pub metadata_shown : Bool → List Entry → List Entry → List Entry
+metadata_shown tells_checksums overrides entries = all_told (entries_by tells_checksums) overrides entries
 
 -- GetObject and HeadObject: what is known of the version, and the date at which it was made
-abbrev pub got_fields : Opening → Found (List ℕ) → List Entry → Option (List ℕ) → Fields
-got_fields opening found overrides modified =
+abbrev pub got_fields : Bool → Opening → Found (List ℕ) → List Entry → Option (List ℕ) → Fields
+got_fields tells_checksums opening found overrides modified =
     let base = bare opening in
     record base {
       version_id = shown_text found.shown;
@@ -93,7 +99,7 @@ got_fields opening found overrides modified =
       modified = modified;
       accepts_ranges = true;
       content_type = type_left overrides found.stored.content_type;
-      metadata = metadata_shown overrides found.stored.metadata;
+      metadata = metadata_shown tells_checksums overrides found.stored.metadata;
     }
 
 -- which bytes of an object a reply has, of how many (RFC 9110, section 14.4)
@@ -104,10 +110,10 @@ content_range first last size = codes "bytes " ++ decimal first ++ codes "-" ++ 
 abbrev pub part : ℕ → ℕ → List ℕ → List ℕ
 part first last bytes = drop first (take (last + 1) bytes)
 
--- GetObject and HeadObject of a range: the same, and which bytes these are
+-- GetObject and HeadObject of a range: the same, and which bytes these are; a checksum is that of all bytes, so none is told
 abbrev pub part_fields : Opening → Found (List ℕ) → List Entry → Option (List ℕ) → ℕ → ℕ → Fields
 part_fields opening found overrides modified first last =
-    let whole = got_fields opening found overrides modified in
+    let whole = got_fields false opening found overrides modified in
     record whole { content_range = Some (content_range first last (length found.stored.body)) }
 
 -- the same of a version that is as the reader knows it (RFC 9110, section 15.4.5): nothing of its bytes, and of the entries of
@@ -171,7 +177,8 @@ has_body other = false
 
 -- the reply that shows this of a version
 abbrev pub reply_with : Opening → Option (List ℕ) → Found (List ℕ) → List Entry → Selection → Reply
-reply_with opening modified found overrides Whole = behind (got_fields opening found overrides modified) found.stored.body
+reply_with opening modified found overrides Whole =
+    behind (got_fields opening.tells_checksums opening found overrides modified) found.stored.body
 reply_with opening modified found overrides (Part first last) =
     behind (part_fields opening found overrides modified first last) (part first last found.stored.body)
 reply_with opening modified found overrides Unchanged = alone (unchanged_fields opening found overrides modified)
@@ -197,7 +204,7 @@ reply_to opening modified outcomes.UploadDropped = alone (bare opening)
 reply_to opening modified (outcomes.Deleted shown is_delete_marker) = alone (deleted_fields opening shown is_delete_marker)
 reply_to opening modified (outcomes.Refused code is_delete_marker) = beside (error_fields opening is_delete_marker) (error_document opening.dialect code opening.number)
 
--- how a message fared, by what came of it; who answers it, when, and in which dialect
+-- how a message fared, by what came of it; who answers it, when, and in which dialect; and whether it tells checksums
 abbrev pub opening_of : ℕ → Context → List ℕ → Outcome → Opening
 opening_of number context date outcome =
     record {
@@ -206,6 +213,8 @@ opening_of number context date outcome =
       closes = context.closes;
       date = date;
       dialect = context.dialect;
+      tells_checksums = context.tells_checksums;
+      checksum = context.checksum;
     }
 
 -- the status of a reply
@@ -233,7 +242,8 @@ pub record Prints (answer : Answer) (context : Context) (text : List ℕ) : Type
 -- what a refusal takes from its connection and its message: the dialect, the moment, and whether it is a HEAD. It ends the
 -- connection
 abbrev pub closing : Dialect → ℕ → Bool → Context
-closing dialect moment head_only = record { moment = moment; head_only = head_only; closes = true; dialect = dialect }
+closing dialect moment head_only =
+    record { moment = moment; head_only = head_only; closes = true; dialect = dialect; tells_checksums = false; checksum = None }
 
 -- the refusal of a message that did not come to the machine: 0 stands for no number
 abbrev pub unnumbered : Code → Answer

@@ -1,6 +1,7 @@
 //! What a reply takes from the message that it answers.
 
 use s3_calendar::Moment;
+use s3_integrity::Checksum;
 use s3_terms::Dialect;
 
 /// What a reply takes from the message that it answers.
@@ -15,4 +16,9 @@ pub struct Context {
     pub closes: bool,
     /// How the document of the reply is spelled.
     pub dialect: Dialect,
+    /// A reply that shows all bytes of an object tells the checksums that are kept with it (Amazon S3 API Reference, GetObject,
+    /// `x-amz-checksum-mode`).
+    pub tells_checksums: bool,
+    /// The checksum that was found of its body, which the reply to a PutObject or an UploadPart tells.
+    pub checksum: Option<Checksum>,
 }

@@ -6,16 +6,17 @@ ghost use Rattle.s3_replies.specs.Lines.{print_lines};
 
 use crate::date::DateText;
 use crate::lines::{
-    Entries, write_all_metadata, write_flag, write_line, write_number, write_optional,
-    write_quoted, write_status,
+    Entries, write_all_metadata, write_checksum, write_flag, write_line, write_number,
+    write_optional, write_quoted, write_status,
 };
 use crate::room::Room;
+use s3_integrity::Checksum;
 use s3_terms::{Dialect, Status};
 use s3_text::number_digits;
 use s3_versions::MetadataEntry;
 
 /// No head is longer.
-pub(crate) const HEAD_MAX: usize = 7_863;
+pub(crate) const HEAD_MAX: usize = 7_935;
 
 /// How a message fared, who answers it, and when: what each head has to say; and how a document behind it is spelled.
 #[derive(Clone, Copy)]
@@ -29,6 +30,10 @@ pub(crate) struct Opening {
     pub date: DateText,
     /// How the document of the reply is spelled.
     pub dialect: Dialect,
+    /// Whether the checksums are told that are kept with an object whose bytes are all shown.
+    pub tells_checksums: bool,
+    /// The checksum of what is stored, if one was found.
+    pub checksum: Option<Checksum>,
 }
 
 /// What a head says, in the order of its lines. Contracts see it as `fields_of` it.
@@ -50,6 +55,8 @@ pub(crate) struct Head<'a> {
     pub location: Option<&'a [u8]>,
     /// The tag, without its double quotes.
     pub tag: Option<&'a [u8]>,
+    /// The checksum of what is stored.
+    pub checksum: Option<Checksum>,
     /// The date of HTTP at which the object was made.
     pub modified: Option<&'a [u8]>,
     pub accepts_ranges: bool,
@@ -81,6 +88,7 @@ impl<'a> Head<'a> {
             region: None,
             location: None,
             tag: None,
+            checksum: None,
             modified: None,
             accepts_ranges: false,
             content_range: None,
@@ -122,13 +130,13 @@ impl<'a> Head<'a> {
         write_line(out, "x-amz-request-id", &number_digits(self.number));
     }
 
-    /// Appends the lines that tell of a bucket, an object or its version: 372 bytes at most, and no more than what they say needs.
+    /// Appends the lines that tell of a bucket, an object or its version: 444 bytes at most, and no more than what they say needs.
     fn write_version<R: Room>(&self, out: &mut R)
         requires fits { HasRoomFor (fields_of self.now) }
-        requires room { R.size out.old + 372 ≤ R.capacity out.old }
+        requires room { R.size out.old + 444 ≤ R.capacity out.old }
         ensures items { R.written out.new
             ≡ R.written out.old ++ print_lines (version_lines (fields_of self.now)) }
-        ensures bound { R.size out.new ≤ R.size out.old + 372 }
+        ensures bound { R.size out.new ≤ R.size out.old + 444 }
         ensures short { R.size out.new ≤ R.size out.old + version_room (fields_of self.now) }
         ensures capacity { R.capacity out.old ≤ R.capacity out.new }
     {
@@ -138,6 +146,7 @@ impl<'a> Head<'a> {
         write_optional(out, "x-amz-bucket-region", self.region);
         write_optional(out, "Location", self.location);
         write_quoted(out, "ETag", self.tag);
+        write_checksum(out, self.checksum);
         write_optional(out, "Last-Modified", self.modified);
     }
 

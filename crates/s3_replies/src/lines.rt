@@ -1,11 +1,12 @@
 //! The lines of a reply's head, written one after another.
 
 ghost use Rattle.std.specs.Prelude.{◌≡◌, ◌+◌, ◌*◌, ◌≤◌, if◌then◌else◌, ◌++◌, [], ◌∷◌, length, map, option_map, decimal};
-ghost use Rattle.s3_replies.specs.Lines.{status_line, print_lines, flag, optional, quoted, value_of, value_length, room_with, metadata_line, tells_freshness, is_overridden, type_left, entries_told, told_of, all_told};
+ghost use Rattle.s3_replies.specs.Lines.{status_line, print_lines, flag, optional, quoted, value_of, value_length, room_with, metadata_line, tells_checksum, tells_freshness, is_overridden, type_left, checksum_line, entries_by, entries_told, line_if, line_room, told_of, all_told};
 ghost use Rattle.s3_versions.specs.Metadata.{metadata_size};
 
 use crate::room::Room;
 use itoa::Buffer;
+use s3_integrity::Checksum;
 use s3_terms::Status;
 use s3_versions::MetadataEntry;
 
@@ -106,20 +107,41 @@ pub(crate) fn write_number<R: Room>(out: &mut R, name: &str, number: u64, test: 
 pub(crate) enum Entries {
     /// All.
     All,
+    /// All but those that tell a checksum.
+    ButChecksums,
     /// Those that tell how long a cache may use what it keeps: `cache-control` and `expires`.
     Freshness,
 }
 
 impl Entries {
+    /// Those of an object, whose checksums may be told.
+    pub(crate) fn shown(tells_checksums: bool) -> Entries
+        ensures { result ≡ entries_by tells_checksums }
+    {
+        if tells_checksums {
+            Entries::All
+        } else {
+            Entries::ButChecksums
+        }
+    }
+
     /// Whether the entry is one of these.
     fn has(self, entry: &MetadataEntry) -> bool
         ensures { entries_told self (entry.now ∷ []) ≡ if result then entry.now ∷ [] else [] }
     {
         match self {
             Entries::All => true,
+            Entries::ButChecksums => !tells_checksum(entry),
             Entries::Freshness => tells_freshness(entry),
         }
     }
+}
+
+/// Whether the entry tells a checksum of an object's bytes.
+fn tells_checksum(entry: &MetadataEntry) -> bool
+    ensures { result ≡ tells_checksum entry.now }
+{
+    entry.name().starts_with(b"x-amz-checksum-")
 }
 
 /// Whether the entry tells how long a cache may use what it keeps (RFC 9111, sections 5.2 and 5.3).
@@ -127,6 +149,36 @@ fn tells_freshness(entry: &MetadataEntry) -> bool
     ensures { result ≡ tells_freshness entry.now }
 {
     entry.name() == b"cache-control".as_slice() || entry.name() == b"expires".as_slice()
+}
+
+/// Appends a header line whose name is one of bytes.
+#[tactic(auto, unfolding(crate::specs::Lines::print_lines))]
+fn write_pair<R: Room>(out: &mut R, name: &[u8], value: &[u8])
+    requires { R.size out.old + length name.now + length value.now + 4 ≤ R.capacity out.old }
+    ensures items { R.written out.new ≡ R.written out.old ++ print_lines ((name.now, value.now) ∷ []) }
+    ensures len { R.size out.new
+        ≡ R.size out.old + length name.now + length value.now + 4 }
+    ensures capacity { R.capacity out.old ≤ R.capacity out.new }
+{
+    out.write(name);
+    out.write(b": ");
+    out.write(value);
+    out.write(b"\r\n");
+}
+
+/// Appends the line of a checksum, where there is one.
+#[tactic(auto, using(crate::proofs::LineLemmas::short_name), unfolding(crate::specs::Lines::print_lines))]
+pub(crate) fn write_checksum<R: Room>(out: &mut R, sum: Option<Checksum>)
+    requires { R.size out.old + 72 ≤ R.capacity out.old }
+    ensures items { R.written out.new ≡ R.written out.old ++ print_lines (line_if (option_map checksum_line sum)) }
+    ensures bound { R.size out.new ≤ R.size out.old + 72 }
+    ensures short { R.size out.new ≤ R.size out.old + line_room (option_map checksum_line sum) }
+    ensures capacity { R.capacity out.old ≤ R.capacity out.new }
+{
+    if let Some(sum) = sum {
+        let text = sum.text();
+        write_pair(out, sum.algorithm().header(), text.as_bytes());
+    }
 }
 
 /// Appends the line of an entry of metadata, by its whole name.
@@ -138,10 +190,7 @@ fn write_entry<R: Room>(out: &mut R, entry: &MetadataEntry)
         ≡ R.size out.old + length entry.now.name + length entry.now.value + 4 }
     ensures capacity { R.capacity out.old ≤ R.capacity out.new }
 {
-    out.write(entry.name());
-    out.write(b": ");
-    out.write(entry.value());
-    out.write(b"\r\n");
+    write_pair(out, entry.name(), entry.value());
 }
 
 /// Whether a line of this name stands among these.

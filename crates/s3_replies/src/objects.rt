@@ -24,7 +24,7 @@ use s3_documents::{copied_document, part_copied_document};
 use s3_machine::{Found, Overrides};
 use s3_names::{Tag, VersionId};
 
-/// Appends all of the reply to a put, or to that of a part, which shows no version.
+/// Appends all of the reply to a put, or to that of a part, which shows no version, with the checksum that was found of the body.
 pub(crate) fn put_reply<R: Room>(out: &mut R, opening: Opening, tag: &Tag, shown: Option<VersionId>)
     requires { R.size out.old + 8_192 ≤ R.capacity out.old }
     ensures written { R.written out.new ≡ R.written out.old ++ print_head (put_fields opening tag.now shown) }
@@ -35,12 +35,14 @@ pub(crate) fn put_reply<R: Room>(out: &mut R, opening: Opening, tag: &Tag, shown
     let head = Head {
         version_id: id_bytes(&id),
         tag: Some(text.as_bytes()),
+        checksum: opening.checksum,
         ..Head::bare(&opening)
     };
     head.print(out);
 }
 
-/// Appends what is known of a version and of so many of its bytes, which stand behind it: all, or a range.
+/// Appends what is known of a version and of so many of its bytes, which stand behind it: all, or a range. Its checksums are
+/// told where these are all.
 fn object_head<R: Room>(
     out: &mut R,
     opening: Opening,
@@ -49,10 +51,11 @@ fn object_head<R: Room>(
     modified: Option<DateText>,
     range: Option<RangeText>,
     size: u64,
+    tells_checksums: bool,
 )
     requires { R.size out.old + 8_192 ≤ R.capacity out.old }
     ensures written { R.written out.new ≡ R.written out.old
-        ++ print_head (record (got_fields opening found.now overrides.now modified) {
+        ++ print_head (record (got_fields tells_checksums opening found.now overrides.now modified) {
           content_range = range;
           size = size;
         }) }
@@ -69,7 +72,7 @@ fn object_head<R: Room>(
         content_type: type_left(overrides.entries(), found.stored.content_type.as_bytes()),
         metadata: found.stored.metadata.entries(),
         overrides: overrides.entries(),
-        tells: Entries::All,
+        tells: Entries::shown(tells_checksums),
         size,
         ..Head::bare(&opening)
     };
@@ -120,11 +123,23 @@ pub(crate) fn got_reply<R: Room>(
 {
     let size = found.stored.body.size();
     match selection {
-        Selection::Whole => object_head(out, opening, found, overrides, modified, None, size),
+        Selection::Whole => {
+            let told = opening.tells_checksums;
+            object_head(out, opening, found, overrides, modified, None, size, told);
+        }
         Selection::Part { first, last } => {
             let (_, count) = place_of(first, last, size);
             let range = RangeText::of(first, last, size);
-            object_head(out, opening, found, overrides, modified, Some(range), count);
+            object_head(
+                out,
+                opening,
+                found,
+                overrides,
+                modified,
+                Some(range),
+                count,
+                false,
+            );
         }
         Selection::Unchanged => unchanged_reply(out, opening, found, overrides, modified),
         Selection::Outside => outside_reply(out, opening, found.stored.size, head_only),

@@ -211,6 +211,8 @@ pub fn print_reply<R: Room>(answer: Answer, context: &Context, out: &mut R) -> O
         closes: context.closes,
         date: DateText::of(context.moment),
         dialect: context.dialect,
+        tells_checksums: context.tells_checksums,
+        checksum: context.checksum,
     };
     let modified = modified_in(&answer.outcome);
     outcome_reply(out, opening, answer.outcome, modified, context.head_only)
@@ -229,6 +231,8 @@ pub fn refusal(code: Code, moment: Moment, head_only: bool, dialect: Dialect) ->
         closes: true,
         date: DateText::of(moment),
         dialect,
+        tells_checksums: false,
+        checksum: None,
     };
     let mut reply: ArrayVec<u8, 8_192> = ArrayVec::new();
     error_reply(&mut reply, opening, code, false, head_only);

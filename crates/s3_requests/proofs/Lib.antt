@@ -1,5 +1,6 @@
 pub mod CopySourceLemmas
 pub mod DescriptionLemmas
+pub mod KeptSumLemmas
 pub mod LineLemmas
 pub mod MemoryLemmas
 pub mod OverrideLemmas

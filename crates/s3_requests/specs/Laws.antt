@@ -14,6 +14,8 @@ use Rattle.s3_machine.specs.declared.command.Description.{Description}
 use Rattle.s3_machine.specs.declared.command.KeyCommand.{KeyCommand}
 use Rattle.s3_machine.specs.declared.command.KeyCommand.TheVariants as key_commands
 use Rattle.s3_machine.specs.Effects.{brings, sent}
+use Rattle.s3_integrity.specs.declared.checksum.Checksum.{Checksum}
+use Rattle.s3_requests.specs.KeptSum.{with_sum}
 use Rattle.s3_requests.specs.ListArguments.{token_named}
 use Rattle.s3_requests.specs.Routing.{route_of}
 
@@ -52,6 +54,12 @@ IsUnbrokenPlan other = Unit {0}
 abbrev pub PlansAreUnbroken : Type 0
 PlansAreUnbroken =
     (settings : Settings) (text : List ℕ) (head : HeadParts) (plan : Plan) → Says text head → route_of settings head ≡ Ok plan → IsUnbrokenPlan plan
+
+-- nor has metadata with a checksum, where it had none without
+abbrev pub SumsAreUnbroken : Type 0
+SumsAreUnbroken =
+    (sum : Option Checksum) (said kept : List Entry) → with_sum sum said ≡ Ok kept → list_all is_unbroken_entry said ≡ true
+    → list_all is_unbroken_entry kept ≡ true
 
 -- what is ready without a body brings none, to a key or to an upload: so what is stored of a message is what came as its body
 abbrev pub ReadyPlansBringNothing : Type 0

@@ -1,9 +1,11 @@
 pub mod Addresses
 pub mod Arguments
+pub mod ChecksumMode
 pub mod Commands
 pub mod Copies
 pub mod CopySource
 pub mod Description
+pub mod KeptSum
 pub mod Laws
 pub mod LineNames
 pub mod ListArguments
@@ -18,6 +20,8 @@ pub mod StorageClass
 pub mod Unserved
 pub mod UploadArguments
 pub mod WriteCondition
+pub use Rattle.s3_integrity.specs.Algorithm
+pub use Rattle.s3_integrity.specs.Sum
 pub use Rattle.s3_http_heads.specs.Head
 pub use Rattle.s3_http_heads.specs.Target
 pub use Rattle.s3_conditions.specs.Conditions

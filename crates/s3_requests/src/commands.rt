@@ -1,10 +1,12 @@
 //! From a plan and the body that came with its message to a command.
-ghost use Rattle.std.specs.Prelude.{◌≡◌, ◌<◌, true, length, IfOk, IfErr, OnErr};
+ghost use Rattle.std.specs.Prelude.{◌≡◌, ◌<◌, true, is_some, length, IfOk, IfErr, OnErr};
 ghost use Rattle.s3_terms.specs.Fault.{Follows};
 ghost use Rattle.s3_requests.specs.Commands as rules;
 
+use crate::kept_sum::with_sum;
 use crate::routing::Plan;
 use s3_bodies::Payload;
+use s3_integrity::Checksum;
 use s3_machine::{
     BucketCommand, Command, Description, KeyCommand, ObjectPut, UploadCommand, WriteCondition,
 };
@@ -14,17 +16,23 @@ use s3_request_documents::{read_completion, read_deletion, read_location, read_v
 use s3_terms::{Code, Dialect, NoMemory};
 use std::alloc::Global;
 
-/// The command of a plan and the body that came with its message, where the operation can use the body: `MalformedBody` or
+/// The command of a plan and the body that came with its message, where the operation can use the body. A PutObject keeps the
+/// checksum that was found of it. The faults are `MalformedBody` or
 /// `MalformedXML`, by the dialect, where it can't, `InvalidArgument` where a completion lists a number that no part has,
 /// `InvalidLocationConstraint` where a bucket is to be made in another region, and `NotImplemented` where objects are to be
-/// deleted on conditions. A body that the operation has no use for is dropped. Memory is taken for the document of a
+/// deleted on conditions, and `MetadataTooLarge` where the checksum has no room beside the other metadata. A body that the
+/// operation has no use for is dropped. Memory is taken for the document of a
 /// PutBucketVersioning, of a CompleteMultipartUpload, of a DeleteObjects or of a CreateBucket that reads one alone, of a body
-/// that isn't empty; `InternalError` says that there was none.
+/// that isn't empty, and for metadata with a checksum; `InternalError` says that there was none.
 #[tactic(auto, unfolding(crate::specs::Commands::command_of))]
-pub fn command(alloc: Global, plan: Plan, payload: Payload) -> Result<Command, Code>
-    ensures rule { Follows result (rules.command_of plan payload) }
-    ensures memory { IfErr result (λ code. code ≡ Code.InternalError
-        → (rules.reads_body plan ≡ true) × (0 < length payload)) }
+pub fn command(
+    alloc: Global,
+    plan: Plan,
+    sum: Option<Checksum>,
+    payload: Payload,
+) -> Result<Command, Code>
+    ensures rule { Follows result (rules.command_of plan sum payload) }
+    ensures memory { IfErr result (λ code. code ≡ Code.InternalError → rules.CommandTakes plan sum payload) }
 {
     match plan {
         Plan::Ready(command) => Ok(command),
@@ -35,11 +43,7 @@ pub fn command(alloc: Global, plan: Plan, payload: Payload) -> Result<Command, C
             key,
             said,
             condition,
-        } => Ok(Command::Key {
-            bucket,
-            key,
-            asked: KeyCommand::Put(put_of(said, condition, payload)),
-        }),
+        } => put_command(alloc, bucket, key, said, condition, sum, payload),
         Plan::PutPart {
             bucket,
             key,
@@ -102,16 +106,34 @@ fn versioning_command(
     }
 }
 
-// What is to be stored, with its body.
-fn put_of(said: Description, condition: WriteCondition, payload: Payload) -> ObjectPut
-    ensures { result ≡ rules.put_of said condition payload }
+// PutObject, with the checksum that was found of its body among the metadata.
+fn put_command(
+    alloc: Global,
+    bucket: BucketName,
+    key: Key,
+    said: Description,
+    condition: WriteCondition,
+    sum: Option<Checksum>,
+    payload: Payload,
+) -> Result<Command, Code>
+    ensures rule { Follows result (rules.put_command_of bucket key said condition sum payload) }
+    ensures memory { IfErr result (λ code. code ≡ Code.InternalError → is_some sum ≡ true) }
 {
-    ObjectPut {
-        content_type: said.content_type,
-        metadata: said.metadata,
-        condition,
-        payload,
-    }
+    let Description {
+        content_type,
+        metadata,
+    } = said;
+    let metadata = with_sum(alloc, metadata, sum)?;
+    Ok(Command::Key {
+        bucket,
+        key,
+        asked: KeyCommand::Put(ObjectPut {
+            content_type,
+            metadata,
+            condition,
+            payload,
+        }),
+    })
 }
 
 // CompleteMultipartUpload, with the parts that the body lists.

@@ -1,13 +1,15 @@
 //! What is known of all plans: laws, with nothing to run.
 
-ghost use Rattle.s3_requests.specs.Laws.{PlansAreUnbroken, ReadyPlansBringNothing, TokensAreReadBack};
+ghost use Rattle.s3_requests.specs.Laws.{PlansAreUnbroken, ReadyPlansBringNothing, SumsAreUnbroken, TokensAreReadBack};
 
 use s3_http_heads::lines_are_whole;
 
 /// A law: no carriage return is in the media type and the metadata that a head asks to be stored, with its body or when an
-/// upload is complete, nor in what it asks the reply to a read to say, so that a reply may tell each in a line.
+/// upload is complete, nor in what it asks the reply to a read to say, nor in metadata with the checksum that is kept of a body,
+/// where none is in the metadata without it, so that a reply may tell each in a line.
 pub fn plans_are_unbroken()
-    ensures { PlansAreUnbroken }
+    ensures plans { PlansAreUnbroken }
+    ensures sums { SumsAreUnbroken }
 {
     lines_are_whole();
 }

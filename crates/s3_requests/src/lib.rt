@@ -4,10 +4,12 @@
 
 mod addresses;
 mod arguments;
+mod checksum_mode;
 mod commands;
 mod copies;
 mod copy_source;
 mod description;
+mod kept_sum;
 mod laws;
 mod line_names;
 mod list_arguments;
@@ -21,6 +23,7 @@ mod unserved;
 mod upload_arguments;
 mod write_condition;
 
+pub use checksum_mode::asks_for_checksums;
 pub use commands::command;
 pub use laws::{plans_are_unbroken, ready_plans_bring_nothing, tokens_are_read_back};
 pub use operations::Operation;

@@ -1,5 +1,5 @@
 -- Where a whole head text stands: at a sound message, and, once no more bytes come, only where something is decided.
-use Rattle.std.proofs.Common.{◌≡◌, ◌≢◌, ℕ, Bool, true, List, Result, Ok, Err, drop, refl, ap, inl, inr}
+use Rattle.std.proofs.Common.{◌≡◌, ◌≢◌, ℕ, Bool, true, List, Result, Ok, Err, drop, refl, ap, inl, inr, Option}
 use Rattle.s3_config.specs.Settings.{Settings}
 use Rattle.s3_terms.specs.declared.code.Code.{Code}
 use Rattle.s3_terms.specs.declared.dialect.Dialect.{Dialect}
@@ -8,6 +8,8 @@ use Rattle.s3_http_heads.specs.declared.find.Found.{Found}
 use Rattle.s3_http_heads.specs.declared.find.Found.TheVariants as found
 use Rattle.s3_http_heads.specs.Head.{HeadParts}
 use Rattle.s3_machine.specs.declared.command.Command.{Command}
+use Rattle.s3_integrity.specs.declared.checksum.Checksum.{Checksum}
+use Rattle.s3_payloads.specs.FoundSum.{found_sum}
 use Rattle.s3_requests.specs.Commands.{command_of}
 use Rattle.s3_replies.specs.declared.context.Context.{Context}
 use Rattle.s3_session.specs.Verdict as verdicts
@@ -19,16 +21,16 @@ use Rattle.s3_session.specs.Output.{HasText}
 use Rattle.s3_session.specs.Laws.{HeadsAreDecided}
 
 -- where a head text stands and no more bytes come, something is decided
-commanded_decided : (dialect : Dialect) (head : HeadParts) (moment : ℕ) (behind : List ℕ) (rule : Result Command Code) → ¬ (open_yet ≡ commanded dialect head moment behind rule)
-commanded_decided dialect head moment behind (Ok command) is = let same = ap (λ (d : Decision). d.0) is in absurd (cc)
-commanded_decided dialect head moment behind (Err code) is = let same = ap (λ (d : Decision). d.0) is in absurd (cc)
+commanded_decided : (dialect : Dialect) (head : HeadParts) (moment : ℕ) (sum : Option Checksum) (behind : List ℕ) (rule : Result Command Code) → ¬ (open_yet ≡ commanded dialect head moment sum behind rule)
+commanded_decided dialect head moment sum behind (Ok command) is = let same = ap (λ (d : Decision). d.0) is in absurd (cc)
+commanded_decided dialect head moment sum behind (Err code) is = let same = ap (λ (d : Decision). d.0) is in absurd (cc)
 
 module _ (decide : EndsDecide) (settings : Settings) (moment : ℕ) (bytes : List ℕ) where
   asked_decided : (head : HeadParts) (behind : List ℕ) (rule : Result Asked Code) → ¬ (AskedJudged settings.dialect head moment true behind rule open_yet)
   asked_decided head behind (Err code) is = let same = ap (λ (d : Decision). d.0) is in absurd (cc)
   asked_decided head behind (Ok asked) (bodies.Open held, judged, is) = decide asked.announced behind (bodies.Open held) judged
   asked_decided head behind (Ok asked) (bodies.Accepted payload, judged, is) =
-      commanded_decided settings.dialect head moment (drop asked.announced.length behind) (command_of asked.plan payload) is
+      commanded_decided settings.dialect head moment (found_sum asked.announced.form payload) (drop asked.announced.length behind) (command_of asked.plan (found_sum asked.announced.form payload) payload) is
   asked_decided head behind (Ok asked) (bodies.Refused place code, judged, is) = let same = ap (λ (d : Decision). d.0) is in absurd (cc)
 
   text_decided : (text behind : List ℕ) → ¬ (TextJudged settings moment true text behind open_yet)

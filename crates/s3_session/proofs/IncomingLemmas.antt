@@ -1,5 +1,5 @@
 -- What a piece of a body makes of its message.
-use Rattle.std.proofs.Common.{◌≡◌, ℕ, ◌+◌, ◌-◌, ◌≤◌, true, false, List, [], ◌++◌, take, drop, length, min, refl, sym, ap, subst, ◌∙◌, arith, inl, inr, length-append, Result, Ok, Err}
+use Rattle.std.proofs.Common.{◌≡◌, ℕ, ◌+◌, ◌-◌, ◌≤◌, true, false, List, [], ◌++◌, take, drop, length, min, refl, sym, ap, subst, ◌∙◌, arith, inl, inr, length-append, Result, Ok, Err, Option}
 use Rattle.std.proofs.lemmas.List.{take_all, take_min, drop_all, length-take}
 use Rattle.s3_config.specs.Settings.{Settings}
 use Rattle.s3_terms.specs.declared.code.Code.{Code}
@@ -9,10 +9,12 @@ use Rattle.s3_payloads.specs.Outcome.{part_of}
 use Rattle.s3_payloads.specs.Reader.{IsFed, Stands, taken_of, verdict_of}
 use Rattle.s3_payloads.specs.Verdict as payloads
 use Rattle.s3_machine.specs.declared.command.Command.{Command}
+use Rattle.s3_integrity.specs.declared.checksum.Checksum.{Checksum}
+use Rattle.s3_payloads.specs.FoundSum.{found_sum}
 use Rattle.s3_requests.specs.Commands.{command_of}
 use Rattle.s3_replies.specs.declared.context.Context.{Context}
 use Rattle.s3_session.specs.Verdict as verdicts
-use Rattle.s3_session.specs.Decision.{Decision, Judges, commanded, concluded, context_of}
+use Rattle.s3_session.specs.Decision.{Decision, Judges, commanded, concluded, context_of, with_found}
 use Rattle.s3_session.specs.declared.incoming.Incoming.{Incoming}
 use Rattle.s3_session.specs.declared.incoming.Progress.{Progress}
 use Rattle.s3_session.specs.Incoming.{IsIncoming, IsInBody, IsRefusedBy, Progresses, Settles, is_open, settled_as}
@@ -61,20 +63,21 @@ module _ (heads : HeadsStay) (pairs : PairsStay) (settings : Settings) (old new 
       body_judged settings old.context.moment false (rest ++ take n piece) h.text (h.behind ++ take n piece) h.head (front_with n) h.says h.asked h.admitted verdict judged
 
   -- what its command comes to is what becomes of the message
-  commanded_known : (n : ℕ) (rule : Result Command Code)
-      → Judges settings old.context.moment false (rest ++ take n piece) (commanded settings.dialect h.head old.context.moment [] rule)
-      → (p : Progress) → p ≡ settled_as rule → Progresses settings old.context (rest ++ take n piece) p
-  commanded_known n (Ok command) judged p is =
-      let is_so : commanded settings.dialect h.head old.context.moment [] (Ok command) ≡ (verdicts.Sound old.context command, []) = rw (← h.context) refl in
+  commanded_known : (n : ℕ) (sum : Option Checksum) (rule : Result Command Code)
+      → Judges settings old.context.moment false (rest ++ take n piece) (commanded settings.dialect h.head old.context.moment sum [] rule)
+      → (p : Progress) → p ≡ settled_as sum rule → Progresses settings old.context (rest ++ take n piece) p
+  commanded_known n sum (Ok command) judged p is =
+      let is_so : commanded settings.dialect h.head old.context.moment sum [] (Ok command) ≡ (verdicts.Sound (with_found sum old.context) command, []) =
+      ap (λ (c : Context). (verdicts.Sound (with_found sum c) command, [])) (sym h.context) in
       rw is (subst (λ (d : Decision). Judges settings old.context.moment false (rest ++ take n piece) d) is_so judged)
-  commanded_known n (Err code) judged p is =
-      let is_so : commanded settings.dialect h.head old.context.moment [] (Err code) ≡ (verdicts.Refused code old.context.head_only, []) = rw h.context refl in
+  commanded_known n sum (Err code) judged p is =
+      let is_so : commanded settings.dialect h.head old.context.moment sum [] (Err code) ≡ (verdicts.Refused code old.context.head_only, []) = rw h.context refl in
       rw is (subst (λ (d : Decision). Judges settings old.context.moment false (rest ++ take n piece) d) is_so judged)
 
   -- the body is whole and right with the bytes that were taken
   whole_known : AcceptedAreWhole → (n : ℕ) (payload : List ℕ) → n ≡ part_of h.asked.announced.length h.behind piece
       → payloads.Judges h.asked.announced (h.behind ++ piece) false (bodies.Accepted payload)
-      → Judges settings old.context.moment false (rest ++ take n piece) (commanded settings.dialect h.head old.context.moment [] (command_of new.admission.plan payload))
+      → Judges settings old.context.moment false (rest ++ take n piece) (commanded settings.dialect h.head old.context.moment (found_sum h.asked.announced.form payload) [] (command_of new.admission.plan (found_sum h.asked.announced.form payload) payload))
   whole_known whole n payload is judged =
       let size = h.asked.announced.length in
       let front = whole h.asked.announced (h.behind ++ piece) false payload judged in
@@ -83,13 +86,13 @@ module _ (heads : HeadsStay) (pairs : PairsStay) (settings : Settings) (old new 
       let shorter : length (h.behind ++ take n piece) ≤ size = rw (← taken) (omega (arith, length-take size (h.behind ++ piece))) in
       let none : drop size (h.behind ++ take n piece) ≡ [] = drop_all size (h.behind ++ take n piece) shorter in
       let is_so : concluded settings.dialect h.head old.context.moment h.asked (h.behind ++ take n piece) (bodies.Accepted payload)
-      ≡ commanded settings.dialect h.head old.context.moment [] (command_of new.admission.plan payload) = rw (none, planned, h.plan) refl in
+      ≡ commanded settings.dialect h.head old.context.moment (found_sum h.asked.announced.form payload) [] (command_of new.admission.plan (found_sum h.asked.announced.form payload) payload) = rw (none, planned, h.plan) refl in
       subst (λ (d : Decision). Judges settings old.context.moment false (rest ++ take n piece) d) is_so (body_known n (bodies.Accepted payload) accepted)
 
   module _ (judge : PayloadsJudge) (undecided : PayloadsStayOpen) (short : OpenBodiesAreShort) (whole : AcceptedAreWhole) (n : ℕ)
       (fed : IsFed h.asked.announced h.behind piece (Ok n) new.admission.reader)
       (count : taken_of new.admission.reader ≡ taken_of old.admission.reader + n) where
-    by_verdict : (verdict : bodies.Verdict) → verdict_of new.admission.reader ≡ verdict → (p : Progress) → Settles new verdict p
+    by_verdict : (verdict : bodies.Verdict) → verdict_of new.admission.reader ≡ verdict → (p : Progress) → Settles h.asked.announced.form new verdict p
         → Progresses settings old.context (rest ++ take n piece) p
     by_verdict (bodies.Open held) at p settles =
         let size = h.asked.announced.length in
@@ -104,10 +107,10 @@ module _ (heads : HeadsStay) (pairs : PairsStay) (settings : Settings) (old new 
           undecided = at;
         } in
         subst (λ (q : Progress). Progresses settings old.context (rest ++ take n piece) q) (sym settles) (kept, body)
-    by_verdict (bodies.Accepted payload) at p (inl (died, reads, some)) = rw died tt
+    by_verdict (bodies.Accepted payload) at p (inl (died, takes)) = rw died tt
     by_verdict (bodies.Accepted payload) at p (inr settles) =
         let judged = subst (λ (v : bodies.Verdict). payloads.Judges h.asked.announced (h.behind ++ piece) false v) at (judge new.admission.reader h.asked.announced (h.behind ++ piece) false fed.1) in
-        commanded_known n (command_of new.admission.plan payload) (whole_known whole n payload fed.0 judged) p settles
+        commanded_known n (found_sum h.asked.announced.form payload) (command_of new.admission.plan (found_sum h.asked.announced.form payload) payload) (whole_known whole n payload fed.0 judged) p settles
     by_verdict (bodies.Refused place code) at p settles =
         let still = undecided new.admission.reader fed.2 (rw at refl) in
         let never : bodies.Refused place code ≡ bodies.Open still.0 = sym at ∙ still.1 in
@@ -132,25 +135,25 @@ module _ (heads : HeadsStay) (pairs : PairsStay) (settings : Settings) (old new 
       (subst (λ (d : Decision). Judges settings old.context.moment false (rest ++ take n piece) d) is_so known)
 
 -- a whole message isn't open
-never_open : (rule : Result Command Code) → ¬ (is_open (settled_as rule) ≡ true)
-never_open (Ok command) is = absurd (cc)
-never_open (Err code) is = absurd (cc)
+never_open : (sum : Option Checksum) (rule : Result Command Code) → ¬ (is_open (settled_as sum rule) ≡ true)
+never_open sum (Ok command) is = absurd (cc)
+never_open sum (Err code) is = absurd (cc)
 
 -- where bytes are still to come, all that came were taken
 module _ (judge : PayloadsJudge) (undecided : PayloadsStayOpen) (short : OpenBodiesAreShort) (settings : Settings) (old new : Incoming) (rest piece : List ℕ)
     (h : IsIncoming settings old rest) (n : ℕ) (fed : IsFed h.asked.announced h.behind piece (Ok n) new.admission.reader) (p : Progress) where
-  taken_by : (verdict : bodies.Verdict) → verdict_of new.admission.reader ≡ verdict → Settles new verdict p → is_open p ≡ true → n ≡ length piece
+  taken_by : (verdict : bodies.Verdict) → verdict_of new.admission.reader ≡ verdict → Settles h.asked.announced.form new verdict p → is_open p ≡ true → n ≡ length piece
   taken_by (bodies.Open held) at settles still =
       let judged = subst (λ (v : bodies.Verdict). payloads.Judges h.asked.announced (h.behind ++ piece) false v) at (judge new.admission.reader h.asked.announced (h.behind ++ piece) false fed.1) in
       fed.0 ∙ omega (arith, short h.asked.announced (h.behind ++ piece) held judged, length-append h.behind piece)
-  taken_by (bodies.Accepted payload) at (inl (died, reads, some)) still = let same = ap is_open died in absurd (cc)
-  taken_by (bodies.Accepted payload) at (inr settles) still = absurd (never_open (command_of new.admission.plan payload) (sym (ap is_open settles) ∙ still))
+  taken_by (bodies.Accepted payload) at (inl (died, takes)) still = let same = ap is_open died in absurd (cc)
+  taken_by (bodies.Accepted payload) at (inr settles) still = absurd (never_open (found_sum h.asked.announced.form payload) (command_of new.admission.plan (found_sum h.asked.announced.form payload) payload) (sym (ap is_open settles) ∙ still))
   taken_by (bodies.Refused place code) at settles still =
       let open_still = undecided new.admission.reader fed.2 (rw at refl) in
       let never : bodies.Refused place code ≡ bodies.Open open_still.0 = sym at ∙ open_still.1 in
       absurd (cc)
 
-  pub all_taken : Settles new (verdict_of new.admission.reader) p → is_open p ≡ true → n ≡ length piece
+  pub all_taken : Settles h.asked.announced.form new (verdict_of new.admission.reader) p → is_open p ≡ true → n ≡ length piece
   all_taken settles still = taken_by (verdict_of new.admission.reader) refl settles still
 
 -- the reader takes the bytes, and refuses nothing
@@ -159,7 +162,7 @@ pub progress_ok : HeadsStay → PairsStay → PayloadsJudge → PayloadsStayOpen
     → new.context ≡ old.context → new.admission.plan ≡ old.admission.plan
     → (n : ℕ) → IsFed h.asked.announced h.behind piece (Ok n) new.admission.reader
     → taken_of new.admission.reader ≡ taken_of old.admission.reader + n
-    → (p : Progress) → Settles new (verdict_of new.admission.reader) p
+    → (p : Progress) → Settles h.asked.announced.form new (verdict_of new.admission.reader) p
     → Progresses settings old.context (rest ++ take n piece) p
 progress_ok heads pairs judge undecided short whole settings old new rest piece h kept planned n fed count p settles =
     by_verdict heads pairs settings old new rest piece h kept planned judge undecided short whole n fed count (verdict_of new.admission.reader) refl p settles

@@ -12,12 +12,16 @@ use Rattle.s3_http_heads.specs.Head.{HeadParts}
 use Rattle.s3_records.specs.Catalogue.{opening}
 use Rattle.s3_requests.specs.declared.routing.Plan.{Plan}
 use Rattle.s3_requests.specs.declared.routing.Plan.TheVariants as plans
-use Rattle.s3_requests.specs.Laws.{PlansAreUnbroken, ReadyPlansBringNothing}
-use Rattle.s3_requests.specs.Commands.{command_of}
+use Rattle.s3_integrity.specs.declared.checksum.Checksum.{Checksum}
+use Rattle.s3_requests.specs.Laws.{PlansAreUnbroken, ReadyPlansBringNothing, SumsAreUnbroken}
+use Rattle.s3_requests.specs.Commands.{command_of, put_of}
+use Rattle.s3_requests.specs.KeptSum.{with_sum}
 use Rattle.s3_requests.specs.Routing.{route_of}
 use Rattle.s3_conditions.specs.declared.conditions.Selection.{Selection}
 use Rattle.s3_conditions.specs.declared.conditions.Selection.TheVariants.{Whole, Part, Unchanged, Outside}
 use Rattle.s3_machine.specs.declared.command.Command.{Command}
+use Rattle.s3_machine.specs.declared.command.Command.TheVariants as commands
+use Rattle.s3_machine.specs.declared.command.KeyCommand.TheVariants as key_commands
 use Rattle.s3_machine.specs.declared.command.Description.{Description}
 use Rattle.s3_machine.specs.declared.command.Found.{Found}
 use Rattle.s3_machine.specs.declared.command.Outcome.{Outcome}
@@ -41,7 +45,7 @@ use Rattle.s3_session.proofs.ReplayLemmas.{replayed_legal, replayed_walk}
 use Rattle.s3_session.proofs.ServesLemmas.{all_of_two}
 use Rattle.s3_session.proofs.SoundLemmas.{admitted_length, admitted_route, one_count}
 use Rattle.s3_session.proofs.SentLemmas.{all_put}
-use Rattle.s3_session.proofs.UnbrokenLemmas.{BringsUnbroken, read_brings, walked_unbroken}
+use Rattle.s3_session.proofs.UnbrokenLemmas.{BringsUnbroken, made_of, read_brings, walked_unbroken}
 
 -- ---- what a reply shows of its entry
 
@@ -98,6 +102,7 @@ data_with None body is = absurd (cc)
 -- what they stand on
 pub record LawsBelow : Type 0 where
   pub plans : PlansAreUnbroken
+  pub sums : SumsAreUnbroken
   pub messages : SoundMessages
   pub tags : TagsAreUnbroken
   pub success : SuccessIsShown
@@ -415,7 +420,7 @@ module _ (laws : LawsBelow) where
       law settings exchanges (record {
         legal = replayed_legal standing settings moment bytes out replay;
         replied = replay.writes.serves.replied;
-        unbroken = walked_unbroken laws.plans laws.messages laws.tags settings true bytes exchanges replay.writes.left
+        unbroken = walked_unbroken laws.plans laws.sums laws.messages laws.tags settings true bytes exchanges replay.writes.left
             (replayed_walk standing settings moment bytes out replay);
       })
 
@@ -460,36 +465,42 @@ module _ (laws : LawsBelow) where
 -- these bytes of a command are those that came as its body, where no command that is ready without a body has any
 abbrev CameAs : (Command → Option (List ℕ)) → Type 0
 CameAs bytes_of =
-    (plan : Plan) (came taken : List ℕ) (command : Command) → ((ready : Command) → plan ≡ plans.Ready ready → bytes_of ready ≡ None)
-    → command_of plan came ≡ Ok command → bytes_of command ≡ Some taken → taken ≡ came
+    (plan : Plan) (sum : Option Checksum) (came taken : List ℕ) (command : Command) → ((ready : Command) → plan ≡ plans.Ready ready → bytes_of ready ≡ None)
+    → command_of plan sum came ≡ Ok command → bytes_of command ≡ Some taken → taken ≡ came
 
 came_brought : CameAs brings
 unfolding command_of
-came_brought (plans.Ready ready) came taken command bodiless made is =
+came_brought (plans.Ready ready) sum came taken command bodiless made is =
     let same : ready ≡ command = cc in
     let none : None ≡ Some taken = sym (bodiless ready refl) ∙ ap brings same ∙ is in absurd (cc)
-came_brought (plans.Put bucket key said condition) came taken command bodiless made is = cc
-came_brought (plans.PutPart bucket key id number) came taken command bodiless made is = absurd (cc)
-came_brought plan came taken command bodiless made is =
-    let nothing = (read_brings plan came command refl made).put in
+came_brought (plans.Put bucket key said condition) sum came taken command bodiless made is =
+    let put = λ (metadata : List MetadataEntry). commands.Key bucket key (key_commands.Put (put_of said.content_type metadata condition came)) in
+    let kept = made_of (with_sum sum said.metadata) put command made in
+    let same : Some came ≡ Some taken = ap brings kept.2 ∙ is in cc
+came_brought (plans.PutPart bucket key id number) sum came taken command bodiless made is = absurd (cc)
+came_brought plan sum came taken command bodiless made is =
+    let nothing = (read_brings plan sum came command refl made).put in
     let none : None ≡ Some taken = sym (ap (option_map (λ (what : Data (List ℕ)). what.body)) nothing) ∙ is in absurd (cc)
 
 came_sent : CameAs sent
 unfolding command_of
-came_sent (plans.Ready ready) came taken command bodiless made is =
+came_sent (plans.Ready ready) sum came taken command bodiless made is =
     let same : ready ≡ command = cc in
     let none : None ≡ Some taken = sym (bodiless ready refl) ∙ ap sent same ∙ is in absurd (cc)
-came_sent (plans.Put bucket key said condition) came taken command bodiless made is = absurd (cc)
-came_sent (plans.PutPart bucket key id number) came taken command bodiless made is = cc
-came_sent plan came taken command bodiless made is =
-    let none : None ≡ Some taken = sym (read_brings plan came command refl made).part ∙ is in absurd (cc)
+came_sent (plans.Put bucket key said condition) sum came taken command bodiless made is =
+    let put = λ (metadata : List MetadataEntry). commands.Key bucket key (key_commands.Put (put_of said.content_type metadata condition came)) in
+    let kept = made_of (with_sum sum said.metadata) put command made in
+    let none : None ≡ Some taken = ap sent kept.2 ∙ is in absurd (cc)
+came_sent (plans.PutPart bucket key id number) sum came taken command bodiless made is = cc
+came_sent plan sum came taken command bodiless made is =
+    let none : None ≡ Some taken = sym (read_brings plan sum came command refl made).part ∙ is in absurd (cc)
 
 payloads : (bytes_of : Command → Option (List ℕ))
     → ((settings : Settings) (head : HeadParts) (ready : Command) → route_of settings head ≡ Ok (plans.Ready ready) → bytes_of ready ≡ None)
     → CameAs bytes_of → WholePayloadsAreBodies → ArePayloads bytes_of
 payloads bytes_of bodiless came law settings moment bytes rest context command taken sound is =
     let routed = admitted_route settings sound.head moment sound.asks sound.admitted in
-    let same = came sound.asks.plan sound.payload taken command (λ ready ready_is. bodiless settings sound.head ready (routed ∙ ap Ok ready_is)) sound.asked is in
+    let same = came sound.asks.plan _ sound.payload taken command (λ ready ready_is. bodiless settings sound.head ready (routed ∙ ap Ok ready_is)) sound.asked is in
     let told = admitted_length settings sound.head moment sound.asks sound.admitted in
     let size = one_count _ _ (sym sound.message.whole ∙ told) in
     (same, λ whole. same ∙ law sound.asks.announced sound.body sound.payload false whole size sound.accepted)

@@ -20,7 +20,7 @@ use Rattle.s3_replies.specs.Replies.{PrintsRefusal, continue_line, internal_erro
 use Rattle.s3_session.specs.Verdict as verdicts
 use Rattle.s3_session.specs.Admission.{Asked, admission_of}
 use Rattle.s3_session.specs.Admitting.{IsRuled}
-use Rattle.s3_session.specs.Decision.{Judges, FoundJudged, AskedJudged, context_of, refused_message, text_at}
+use Rattle.s3_session.specs.Decision.{Judges, FoundJudged, AskedJudged, context_of, refused_message, text_at, with_found}
 use Rattle.s3_session.specs.Invitation.{Invites, FoundInvites, invitation, may_be_invited}
 use Rattle.s3_session.specs.Output.{HasText, IsDead}
 use Rattle.s3_session.specs.Laws.{InvitationsStay}
@@ -90,18 +90,18 @@ module _ (settings : Settings) (new : Connection) (rest : List ℕ) (moment : �
 -- ---- what becomes of a message whose body goes on
 
 module _ (settings : Settings) (context : Context) (rest last : List ℕ) (old new : Connection) where
-  asked_here : (command : Command) (need : Need) → Judges settings context.moment false rest (verdicts.Sound context command, [])
-      → HasText rest → Invites settings context.moment rest last → Asks context command old new need
+  asked_here : (told : Context) (command : Command) (need : Need) → Judges settings told.moment false rest (verdicts.Sound told command, [])
+      → HasText rest → Invites settings told.moment rest last → Asks told command old new need
       → Here settings new false rest (turns_of need) (last ++ added (unsent_of old) (unsent_of new))
-  asked_here command need judged whole invites (inl (asks, stage, same)) =
+  asked_here told command need judged whole invites (inl (asks, stage, same)) =
       let nothing : last ++ added (unsent_of old) (unsent_of new) ≡ last = ap (λ t. last ++ t) (added_none (unsent_of old) (unsent_of new) (rw same refl)) ∙ append-nil last in
-      at_stage settings new rest context.moment (stages.Waiting context) (turns_of need) _ stage (record {
+      at_stage settings new rest told.moment (stages.Waiting told) (turns_of need) _ stage (record {
         command = command;
         one = ap turns_of asks;
         judged = judged;
-        invites = subst (Invites settings context.moment rest) (sym nothing) invites;
+        invites = subst (Invites settings told.moment rest) (sym nothing) invites;
       })
-  asked_here command need judged whole invites (inr (dying, lacks)) = dead_here settings new rest context.moment old need last whole (inr invites) dying
+  asked_here told command need judged whole invites (inr (dying, lacks)) = dead_here settings new rest told.moment old need last whole (inr invites) dying
 
   pub goes_on_here : context.dialect ≡ settings.dialect → (p : Progress) (need : Need) → Progresses settings context rest p → HasText rest → Invites settings context.moment rest last
       → GoesOn context p old new need → Here settings new false rest (turns_of need) (last ++ added (unsent_of old) (unsent_of new))
@@ -113,7 +113,7 @@ module _ (settings : Settings) (context : Context) (rest last : List ℕ) (old n
         invites = rw (nothing, same) invites;
         none = ap turns_of more;
       })
-  goes_on_here spoken (progress.Whole command) need judged whole invites asks = asked_here command need judged whole invites asks
+  goes_on_here spoken (progress.Whole command sum) need judged whole invites asks = asked_here (with_found sum context) command need judged whole invites asks
   goes_on_here spoken (progress.Refused code) need judged whole invites (closes, stage, printed) =
       at_stage settings new rest context.moment (stages.Closed (closings.Refused context.moment code)) (turns_of need) _ stage ((
         record {
@@ -149,8 +149,8 @@ body_fed heads stay settings incoming rest last piece old new n p need h invites
 pub more_taken : (context : Context) (old new : Connection) (p : Progress) (need : Need) → GoesOn context p old new need
     → {taken all : ℕ} → (is_open p ≡ true → taken ≡ all) → need ≡ needs.More → taken ≡ all
 more_taken context old new (progress.Open incoming) need goes_on all more = all refl
-more_taken context old new (progress.Whole command) need (inl asks) all more = let same = sym asks.0 ∙ more in absurd (cc)
-more_taken context old new (progress.Whole command) need (inr (dying, lacks)) all more = let same = sym dying.0 ∙ more in absurd (cc)
+more_taken context old new (progress.Whole command sum) need (inl asks) all more = let same = sym asks.0 ∙ more in absurd (cc)
+more_taken context old new (progress.Whole command sum) need (inr (dying, lacks)) all more = let same = sym dying.0 ∙ more in absurd (cc)
 more_taken context old new (progress.Refused code) need goes_on all more = let same = sym goes_on.0 ∙ more in absurd (cc)
 more_taken context old new progress.Died need dying all more = let same = sym dying.0 ∙ more in absurd (cc)
 

@@ -14,6 +14,8 @@ use Rattle.s3_http_heads.specs.BodyLength.{framing_of, length_lines, announced, 
 use Rattle.s3_http_heads.specs.Message.{IsMessage}
 use Rattle.s3_signing.specs.Verdict.{Proved, head_verdict}
 use Rattle.s3_machine.specs.declared.command.Command.{Command}
+use Rattle.s3_integrity.specs.declared.checksum.Checksum.{Checksum}
+use Rattle.s3_payloads.specs.FoundSum.{found_sum}
 use Rattle.s3_requests.specs.Commands.{command_of}
 use Rattle.s3_requests.specs.Routing.{route_of}
 use Rattle.s3_replies.specs.declared.context.Context.{Context}
@@ -24,7 +26,7 @@ use Rattle.s3_payloads.specs.Verdict as payloads
 use Rattle.s3_payloads.specs.Laws.{AcceptedAreWhole}
 use Rattle.s3_payloads.specs.Laws.{VerdictsStay as BodiesStay}
 use Rattle.s3_session.specs.Admission.{Asked, admission_of}
-use Rattle.s3_session.specs.Decision.{Decision, Judges, AskedJudged, FoundJudged, HeadJudged, TextJudged, commanded, text_at, behind_text, context_of}
+use Rattle.s3_session.specs.Decision.{Decision, Judges, AskedJudged, FoundJudged, HeadJudged, TextJudged, commanded, text_at, behind_text, context_of, with_found}
 use Rattle.s3_session.specs.Laws.{IsSound, SoundMessages, SoundIsJudged}
 use Rattle.s3_terms.proofs.FaultLemmas.{one_value, stage_ok, test_ok}
 use Rattle.s3_session.proofs.StayLemmas.{IsExact}
@@ -93,17 +95,17 @@ record IsSoundHead (settings : Settings) (moment : ℕ) (head : HeadParts) (ende
   payload : List ℕ
   admitted : admission_of settings head moment ≡ Ok asks
   accepted : payloads.Judges asks.announced bytes ended (bodies.Accepted payload)
-  replied : context ≡ context_of settings.dialect head moment
-  asked : command_of asks.plan payload ≡ Ok command
+  replied : context ≡ with_found (found_sum asks.announced.form payload) (context_of settings.dialect head moment)
+  asked : command_of asks.plan (found_sum asks.announced.form payload) payload ≡ Ok command
   left : rest ≡ drop asks.announced.length bytes
 
 module _ (settings : Settings) (moment : ℕ) (ended : Bool) (head : HeadParts) (bytes : List ℕ) (context : Context) (command : Command) (rest : List ℕ) where
   -- a command that is sound is the one that the message makes
-  commanded_sound : (behind : List ℕ) (rule : Result Command Code) → sound context command rest ≡ commanded settings.dialect head moment behind rule
-      → (context ≡ context_of settings.dialect head moment) × (rule ≡ Ok command) × (rest ≡ behind)
-  commanded_sound behind (Ok made) is =
+  commanded_sound : (sum : Option Checksum) (behind : List ℕ) (rule : Result Command Code) → sound context command rest ≡ commanded settings.dialect head moment sum behind rule
+      → (context ≡ with_found sum (context_of settings.dialect head moment)) × (rule ≡ Ok command) × (rest ≡ behind)
+  commanded_sound sum behind (Ok made) is =
       let same = ap (λ (d : Decision). d.0) is in (cc, cc, ap (λ (d : Decision). d.1) is)
-  commanded_sound behind (Err code) is = let same = ap (λ (d : Decision). d.0) is in absurd (cc)
+  commanded_sound sum behind (Err code) is = let same = ap (λ (d : Decision). d.0) is in absurd (cc)
 
   rule_sound : (rule : Result Asked Code) → admission_of settings head moment ≡ rule
       → AskedJudged settings.dialect head moment ended bytes rule (sound context command rest) → IsSoundHead settings moment head ended bytes context command rest
@@ -111,7 +113,7 @@ module _ (settings : Settings) (moment : ℕ) (ended : Bool) (head : HeadParts) 
   rule_sound (Ok asks) at (bodies.Open held, judged, is) = let same = ap (λ (d : Decision). d.0) is in absurd (cc)
   rule_sound (Ok asks) at (bodies.Refused place code, judged, is) = let same = ap (λ (d : Decision). d.0) is in absurd (cc)
   rule_sound (Ok asks) at (bodies.Accepted payload, judged, is) =
-      let told = commanded_sound (drop asks.announced.length bytes) (command_of asks.plan payload) is in
+      let told = commanded_sound (found_sum asks.announced.form payload) (drop asks.announced.length bytes) (command_of asks.plan (found_sum asks.announced.form payload) payload) is in
       record {
         asks = asks;
         payload = payload;
@@ -176,13 +178,16 @@ sound_is_message exact whole settings moment ended bytes rest context command is
 -- a body that is accepted is sound, whatever follows
 head_judged : BodiesStay → (settings : Settings) (moment : ℕ) (ended : Bool) (head : HeadParts) (body rest payload : List ℕ) (asks : Asked) (command : Command)
     → admission_of settings head moment ≡ Ok asks → length body ≡ asks.announced.length → payloads.Judges asks.announced body false (bodies.Accepted payload)
-    → command_of asks.plan payload ≡ Ok command
-    → HeadJudged settings moment ended head (body ++ rest) (sound (context_of settings.dialect head moment) command rest)
+    → command_of asks.plan (found_sum asks.announced.form payload) payload ≡ Ok command
+    → HeadJudged settings moment ended head (body ++ rest)
+    (sound (with_found (found_sum asks.announced.form payload) (context_of settings.dialect head moment)) command rest)
 head_judged stay settings moment ended head body rest payload asks command admitted size accepted asked =
     let judged = stay asks.announced body rest ended (bodies.Accepted payload) accepted tt in
     let behind : rest ≡ drop asks.announced.length (body ++ rest) = sym (drop_at body rest asks.announced.length size) in
-    let end : sound (context_of settings.dialect head moment) command rest ≡ commanded settings.dialect head moment (drop asks.announced.length (body ++ rest)) (command_of asks.plan payload) =
-    rw asked (ap (sound (context_of settings.dialect head moment) command) behind) in
+    let sum = found_sum asks.announced.form payload in
+    let told = with_found sum (context_of settings.dialect head moment) in
+    let end : sound told command rest ≡ commanded settings.dialect head moment sum (drop asks.announced.length (body ++ rest)) (command_of asks.plan sum payload) =
+    rw asked (ap (sound told command) behind) in
     rw admitted (bodies.Accepted payload, judged, end)
 
 text_judged : BodiesStay → (settings : Settings) (moment : ℕ) (ended : Bool) (bytes rest : List ℕ) (context : Context) (command : Command)
@@ -191,7 +196,8 @@ text_judged : BodiesStay → (settings : Settings) (moment : ℕ) (ended : Bool)
 text_judged stay settings moment ended bytes rest context command s =
     let frames = admitted_length settings s.head moment s.asks s.admitted in
     let one = head_judged stay settings moment ended s.head s.body rest s.payload s.asks command s.admitted (one_count _ _ (sym s.message.whole ∙ frames)) s.accepted s.asked in
-    let asks : sound context command rest ≡ sound (context_of settings.dialect s.head moment) command rest = rw s.replied refl in
+    let told = with_found (found_sum s.asks.announced.form s.payload) (context_of settings.dialect s.head moment) in
+    let asks : sound context command rest ≡ sound told command rest = rw s.replied refl in
     inr (s.head, s.message.says, subst (HeadJudged settings moment ended s.head (s.body ++ rest)) (sym asks) one)
 
 pub message_is_sound : BodiesStay → SoundIsJudged

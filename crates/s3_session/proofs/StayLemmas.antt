@@ -1,5 +1,5 @@
 -- What was decided about a message stays decided.
-use Rattle.std.proofs.Common.{◌≡◌, ◌≢◌, ℕ, Bool, false, List, ◌++◌, take, drop, refl, sym, ap, subst, ◌∙◌, inl, inr, Result, Ok, Err, ◌↔◌}
+use Rattle.std.proofs.Common.{◌≡◌, ◌≢◌, ℕ, Bool, false, List, ◌++◌, take, drop, refl, sym, ap, subst, ◌∙◌, inl, inr, Result, Ok, Err, ◌↔◌, Option}
 use Rattle.std.proofs.lemmas.List.{take-append-le, drop-append-le}
 use Rattle.s3_config.specs.Settings.{Settings}
 use Rattle.s3_terms.specs.declared.code.Code.{Code}
@@ -10,6 +10,8 @@ use Rattle.s3_http_heads.specs.declared.find.Found.{Found}
 use Rattle.s3_http_heads.specs.declared.find.Found.TheVariants as found
 use Rattle.s3_http_heads.specs.Head.{HeadParts, asks_head_only}
 use Rattle.s3_machine.specs.declared.command.Command.{Command}
+use Rattle.s3_integrity.specs.declared.checksum.Checksum.{Checksum}
+use Rattle.s3_payloads.specs.FoundSum.{found_sum}
 use Rattle.s3_requests.specs.Commands.{command_of}
 use Rattle.s3_session.specs.Verdict as verdicts
 use Rattle.s3_aws_chunked.specs.Verdict as bodies
@@ -35,10 +37,10 @@ not_open : (d : Decision) (P : Type 0) → d ≡ open_yet → d.0 ≢ verdicts.O
 not_open d P is decided = absurd (decided (ap (λ (e : Decision). e.0) is))
 
 -- what stands behind a sound message stands in front of what follows
-commanded_stays : (dialect : Dialect) (head : HeadParts) (moment : ℕ) (behind more : List ℕ) (rule : Result Command Code)
-    → with_more more (commanded dialect head moment behind rule) ≡ commanded dialect head moment (behind ++ more) rule
-commanded_stays dialect head moment behind more (Ok command) = refl
-commanded_stays dialect head moment behind more (Err code) = refl
+commanded_stays : (dialect : Dialect) (head : HeadParts) (moment : ℕ) (sum : Option Checksum) (behind more : List ℕ) (rule : Result Command Code)
+    → with_more more (commanded dialect head moment sum behind rule) ≡ commanded dialect head moment sum (behind ++ more) rule
+commanded_stays dialect head moment sum behind more (Ok command) = refl
+commanded_stays dialect head moment sum behind more (Err code) = refl
 
 -- what a body was accepted with stands in front of what follows
 concluded_stays : AcceptedAreWhole → (dialect : Dialect) (head : HeadParts) (moment : ℕ) (bytes more : List ℕ) (asked : Asked) (verdict : bodies.Verdict)
@@ -49,8 +51,9 @@ concluded_stays whole dialect head moment bytes more asked (bodies.Refused place
 concluded_stays whole dialect head moment bytes more asked (bodies.Accepted payload) judged decided =
     let size = asked.announced.length in
     let back : drop size (bytes ++ more) ≡ drop size bytes ++ more = drop-append-le size bytes more (whole asked.announced bytes false payload judged).0 in
-    let rule = command_of asked.plan payload in
-    (tt, commanded_stays dialect head moment (drop size bytes) more rule ∙ ap (λ (behind : List ℕ). commanded dialect head moment behind rule) (sym back))
+    let sum = found_sum asked.announced.form payload in
+    let rule = command_of asked.plan sum payload in
+    (tt, commanded_stays dialect head moment sum (drop size bytes) more rule ∙ ap (λ (behind : List ℕ). commanded dialect head moment sum behind rule) (sym back))
 
 asked_stays : BodiesStay → AcceptedAreWhole → (dialect : Dialect) (head : HeadParts) (moment : ℕ) (ended : Bool) (bytes more : List ℕ) (rule : Result Asked Code) (d : Decision)
     → AskedJudged dialect head moment false bytes rule d → d.0 ≢ verdicts.Open

@@ -17,8 +17,10 @@ use Rattle.s3_machine.specs.declared.command.Description.{Description}
 use Rattle.s3_machine.specs.declared.command.Command.TheVariants as commands
 use Rattle.s3_requests.specs.declared.routing.Plan.{Plan}
 use Rattle.s3_requests.specs.declared.routing.Plan.TheVariants as plans
-use Rattle.s3_requests.specs.Laws.{is_unbroken_entry, IsUnbrokenSaid, IsUnbrokenCommand, IsUnbrokenPlan, PlansAreUnbroken}
+use Rattle.s3_requests.specs.Laws.{is_unbroken_entry, IsUnbrokenSaid, IsUnbrokenCommand, IsUnbrokenPlan, PlansAreUnbroken, SumsAreUnbroken}
+use Rattle.s3_integrity.specs.declared.checksum.Checksum.{Checksum}
 use Rattle.s3_requests.specs.Commands.{put_of, command_of, reads_body}
+use Rattle.s3_requests.specs.KeptSum.{with_sum}
 use Rattle.s3_machine.specs.declared.command.BucketCommand.TheVariants as bucket_commands
 use Rattle.s3_machine.specs.declared.command.KeyCommand.TheVariants as key_commands
 use Rattle.s3_machine.specs.declared.command.UploadCommand.TheVariants as upload_commands
@@ -80,21 +82,22 @@ passed (Ok done) made command is = cc
 passed (Err code) made command is = absurd (cc)
 
 -- what is made of a document in the body is nothing else
-pub read_brings : (plan : Plan) (payload : List ℕ) (command : Command) → reads_body plan ≡ true → command_of plan payload ≡ Ok command → BringsNothing command
+pub read_brings : (plan : Plan) (sum : Option Checksum) (payload : List ℕ) (command : Command) → reads_body plan ≡ true
+    → command_of plan sum payload ≡ Ok command → BringsNothing command
 unfolding command_of
-read_brings (plans.CreateBucket name region) payload command reads made =
+read_brings (plans.CreateBucket name region) sum payload command reads made =
     subst BringsNothing (passed _ (commands.Bucket name bucket_commands.Create) command made)
     (record { put = refl; part = refl; begun = refl; copied = refl; unread = refl })
-read_brings (plans.PutVersioning name dialect) payload command reads made =
+read_brings (plans.PutVersioning name dialect) sum payload command reads made =
     let read = made_of _ (λ (status : VersioningStatus). commands.Bucket name (bucket_commands.PutVersioning status)) command made in
     subst BringsNothing read.2 (record { put = refl; part = refl; begun = refl; copied = refl; unread = refl })
-read_brings (plans.Complete bucket key id dialect condition) payload command reads made =
+read_brings (plans.Complete bucket key id dialect condition) sum payload command reads made =
     let read = made_of _ (λ (listed : List ListedPart). commands.Upload bucket key id (upload_commands.Complete listed condition)) command made in
     subst BringsNothing read.2 (record { put = refl; part = refl; begun = refl; copied = refl; unread = refl })
-read_brings (plans.DeleteObjects bucket) payload command reads made =
+read_brings (plans.DeleteObjects bucket) sum payload command reads made =
     let read = made_of _ (commands.DeleteObjects bucket) command made in
     subst BringsNothing read.2 (record { put = refl; part = refl; begun = refl; copied = refl; unread = refl })
-read_brings _ payload command reads made = absurd (cc)
+read_brings _ sum payload command reads made = absurd (cc)
 
 -- what a command stores beside a body may stand in lines
 stores_unbroken : TagsAreUnbroken → (command : Command) → IsUnbrokenCommand command → BringsUnbroken command
@@ -140,26 +143,28 @@ stores_unbroken tags _ unbroken =
       overrides = refl;
     }
 
-planned : TagsAreUnbroken → (plan : Plan) (payload : List ℕ) (command : Command) → IsUnbrokenPlan plan
-    → command_of plan payload ≡ Ok command → BringsUnbroken command
+planned : SumsAreUnbroken → TagsAreUnbroken → (plan : Plan) (sum : Option Checksum) (payload : List ℕ) (command : Command) → IsUnbrokenPlan plan
+    → command_of plan sum payload ≡ Ok command → BringsUnbroken command
 unfolding command_of
-planned tags (plans.Ready ready) payload command unbroken made =
+planned sums tags (plans.Ready ready) sum payload command unbroken made =
     let same : ready ≡ command = cc in
     subst BringsUnbroken same (stores_unbroken tags ready unbroken)
-planned tags (plans.Put bucket key said condition) payload command unbroken made =
-    let same : commands.Key bucket key (key_commands.Put (put_of said condition payload)) ≡ command = cc in
-    subst BringsUnbroken same (stores_unbroken tags (commands.Key bucket key (key_commands.Put (put_of said condition payload))) unbroken)
-planned tags (plans.PutPart bucket key id number) payload command unbroken made =
+planned sums tags (plans.Put bucket key said condition) sum payload command unbroken made =
+    let put = λ (metadata : List Entry). commands.Key bucket key (key_commands.Put (put_of said.content_type metadata condition payload)) in
+    let kept = made_of (with_sum sum said.metadata) put command made in
+    subst BringsUnbroken kept.2
+    (stores_unbroken tags (put kept.0) (unbroken.0, sums sum said.metadata kept.0 kept.1 unbroken.1))
+planned sums tags (plans.PutPart bucket key id number) sum payload command unbroken made =
     let same : commands.Upload bucket key id (upload_commands.PutPart number payload) ≡ command = cc in
     subst BringsUnbroken same (stores_unbroken tags (commands.Upload bucket key id (upload_commands.PutPart number payload)) tt)
-planned tags plan payload command unbroken made = nothing_is_unbroken command (read_brings plan payload command refl made)
+planned sums tags plan sum payload command unbroken made = nothing_is_unbroken command (read_brings plan sum payload command refl made)
 
-module _ (law : PlansAreUnbroken) (messages : SoundMessages) (tags : TagsAreUnbroken) (settings : Settings) where
+module _ (law : PlansAreUnbroken) (sums : SumsAreUnbroken) (messages : SoundMessages) (tags : TagsAreUnbroken) (settings : Settings) where
   sound_unbroken : (moment : ℕ) (bytes rest : List ℕ) (context : Context) (command : Command)
       → IsSound settings moment bytes context command rest → BringsUnbroken command
   sound_unbroken moment bytes rest context command sound =
       let routed = admitted_route settings sound.head moment sound.asks sound.admitted in
-      planned tags sound.asks.plan sound.payload command
+      planned sums tags sound.asks.plan _ sound.payload command
       (law settings sound.message.text sound.head sound.asks.plan sound.message.says routed) sound.asked
 
   no_more : (xs : List Exchange) → map message_of xs ≡ [] → AllByRecursion (λ (x : Exchange). BringsUnbroken x.command) xs

@@ -56,8 +56,8 @@ went_on context old new p need goes_on lives is =
 -- the message has its moment
 gave_its : (context : Context) (old new : Connection) (p : Progress) (need : Need) → context_in context p ≡ context → GoesOn context p old new need → moment_at new.stage ≡ context.moment ∷ []
 gave_its context old new (progress.Open incoming) need kept goes_on = rw goes_on.1 (ap (λ (c : Context). c.moment ∷ []) kept)
-gave_its context old new (progress.Whole command) need kept (inl asks) = rw asks.1 refl
-gave_its context old new (progress.Whole command) need kept (inr (dying, lacks)) = rw dying.1 refl
+gave_its context old new (progress.Whole command sum) need kept (inl asks) = rw asks.1 refl
+gave_its context old new (progress.Whole command sum) need kept (inr (dying, lacks)) = rw dying.1 refl
 gave_its context old new (progress.Refused code) need kept goes_on = rw goes_on.1 refl
 gave_its context old new progress.Died need kept dying = rw dying.1 refl
 

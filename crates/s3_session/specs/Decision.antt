@@ -1,6 +1,6 @@
 -- The message at the front of a connection's bytes, and what is decided about it (RFC 9112, sections
 -- 2.2, 6.3 and 9.3; AWS Signature Version 4; Amazon S3 API Reference, "Error responses").
-use Rattle.std.specs.Prelude.{◌≡◌, ℕ, ◌⊎◌, Bool, false, List, [], take, drop, Result, Ok, Err}
+use Rattle.std.specs.Prelude.{◌≡◌, ℕ, ◌⊎◌, Bool, false, List, [], take, drop, Option, None, Result, Ok, Err}
 use Rattle.s3_config.specs.Settings.{Settings}
 use Rattle.s3_terms.specs.declared.code.Code.{Code}
 use Rattle.s3_terms.specs.declared.dialect.Dialect.{Dialect}
@@ -10,8 +10,11 @@ use Rattle.s3_http_heads.specs.declared.find.Found.{Found}
 use Rattle.s3_http_heads.specs.declared.find.Found.TheVariants as found
 use Rattle.s3_http_heads.specs.Head.{HeadParts, Says, HasNoHead, closes, asks_head_only}
 use Rattle.s3_aws_chunked.specs.Verdict as bodies
+use Rattle.s3_integrity.specs.declared.checksum.Checksum.{Checksum}
+use Rattle.s3_payloads.specs.FoundSum.{found_sum}
 use Rattle.s3_payloads.specs.Verdict as payloads
 use Rattle.s3_machine.specs.declared.command.Command.{Command}
+use Rattle.s3_requests.specs.ChecksumMode.{asks_for_checksums}
 use Rattle.s3_requests.specs.Commands.{command_of}
 use Rattle.s3_replies.specs.declared.context.Context.{Context}
 use Rattle.s3_session.specs.Verdict.{Verdict}
@@ -20,7 +23,18 @@ use Rattle.s3_session.specs.Admission.{Asked, admission_of}
 
 -- what a reply takes from its message, in the dialect of its connection
 abbrev pub context_of : Dialect → HeadParts → ℕ → Context
-context_of dialect head moment = record { moment = moment; head_only = asks_head_only head; closes = closes head; dialect = dialect }
+context_of dialect head moment = record {
+  moment = moment;
+  head_only = asks_head_only head;
+  closes = closes head;
+  dialect = dialect;
+  tells_checksums = asks_for_checksums dialect head;
+  checksum = None;
+}
+
+-- the same, with the checksum that was found of its body
+abbrev pub with_found : Option Checksum → Context → Context
+with_found sum context = record context { checksum = sum }
 
 -- the verdict on a message, and the bytes that come after it where it is sound
 abbrev pub Decision : Type 0
@@ -34,16 +48,18 @@ open_yet = (verdicts.Open, [])
 abbrev pub refused_message : Code → Bool → Decision
 refused_message code head_only = (verdicts.Refused code head_only, [])
 
--- what comes of a message whose body is whole and right, by its command or by what that refuses, and what stands behind it
-abbrev pub commanded : Dialect → HeadParts → ℕ → List ℕ → Result Command Code → Decision
-commanded dialect head moment behind (Ok command) = (verdicts.Sound (context_of dialect head moment) command, behind)
-commanded dialect head moment behind (Err code) = refused_message code (asks_head_only head)
+-- what comes of a message whose body is whole and right and has this checksum, by its command or by what that refuses, and what
+-- stands behind it
+abbrev pub commanded : Dialect → HeadParts → ℕ → Option Checksum → List ℕ → Result Command Code → Decision
+commanded dialect head moment sum behind (Ok command) = (verdicts.Sound (with_found sum (context_of dialect head moment)) command, behind)
+commanded dialect head moment sum behind (Err code) = refused_message code (asks_head_only head)
 
 -- what comes of a message whose head asks for this, by what is known of its body
 abbrev pub concluded : Dialect → HeadParts → ℕ → Asked → List ℕ → bodies.Verdict → Decision
 concluded dialect head moment asked bytes (bodies.Open held) = open_yet
 concluded dialect head moment asked bytes (bodies.Accepted payload) =
-    commanded dialect head moment (drop asked.announced.length bytes) (command_of asked.plan payload)
+    let sum = found_sum asked.announced.form payload in
+    commanded dialect head moment sum (drop asked.announced.length bytes) (command_of asked.plan sum payload)
 concluded dialect head moment asked bytes (bodies.Refused place code) = refused_message code (asks_head_only head)
 
 -- the verdict by what the head asks for and the bytes behind it, or by the first fault of the head

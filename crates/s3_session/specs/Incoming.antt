@@ -1,6 +1,6 @@
 -- How a message stands whose head has come, and what its body brings.
 -- Only clauses of private functions and `Stands` cite these, and nobody has to believe them.
-use Rattle.std.specs.Prelude.{◌≡◌, ◌≢◌, ◌⊎◌, ℕ, ◌<◌, ◌≤◌, Bool, true, false, List, [], ◌++◌, length, Option, Some, None, Result, Ok, Err, IsOk, ⊤}
+use Rattle.std.specs.Prelude.{◌≡◌, ◌≢◌, ◌⊎◌, ℕ, ◌≤◌, Bool, true, false, List, [], ◌++◌, length, Option, Some, None, Result, Ok, Err, IsOk, ⊤}
 use Rattle.s3_config.specs.Settings.{Settings}
 use Rattle.s3_terms.specs.declared.code.Code.{Code}
 use Rattle.s3_terms.specs.declared.dialect.Dialect.{Dialect}
@@ -9,16 +9,19 @@ use Rattle.s3_http_heads.specs.Find.{found_in, skip_pairs}
 use Rattle.s3_http_heads.specs.declared.find.Found.TheVariants as found
 use Rattle.s3_http_heads.specs.Head.{HeadParts, Says, HasNoHead, asks_head_only}
 use Rattle.s3_aws_chunked.specs.Verdict as bodies
+use Rattle.s3_integrity.specs.declared.checksum.Checksum.{Checksum}
+use Rattle.s3_payloads.specs.FoundSum.{found_sum}
 use Rattle.s3_payloads.specs.Reader as payloads
+use Rattle.s3_payloads.specs.declared.form.Form.{Form}
 use Rattle.s3_machine.specs.declared.command.Command.{Command}
 use Rattle.s3_requests.specs.declared.routing.Plan.{Plan}
-use Rattle.s3_requests.specs.Commands.{command_of, reads_body}
+use Rattle.s3_requests.specs.Commands.{CommandTakes, command_of}
 use Rattle.s3_replies.specs.declared.context.Context.{Context}
 use Rattle.s3_session.specs.Verdict as verdicts
 use Rattle.s3_session.specs.Admission.{Asked, admission_of}
 use Rattle.s3_signing.specs.Verdict.{Checked}
 use Rattle.s3_session.specs.Admitting.{IsRuled, early_admission}
-use Rattle.s3_session.specs.Decision.{Judges, context_of}
+use Rattle.s3_session.specs.Decision.{Judges, context_of, with_found}
 use Rattle.s3_session.specs.Invitation.{may_be_invited}
 use Rattle.s3_session.specs.declared.incoming.Incoming.{Incoming}
 use Rattle.s3_session.specs.declared.incoming.Progress.{Progress}
@@ -75,7 +78,8 @@ pub record IsInBody (settings : Settings) (incoming : Incoming) (rest : List ℕ
 -- what became of it with these bytes, where its reply takes this from it
 abbrev pub Progresses : Settings → Context → List ℕ → Progress → Type 0
 Progresses settings context rest (progress.Open incoming) = (incoming.context ≡ context) × IsInBody settings incoming rest
-Progresses settings context rest (progress.Whole command) = Judges settings context.moment false rest (verdicts.Sound context command, [])
+Progresses settings context rest (progress.Whole command sum) =
+    Judges settings context.moment false rest (verdicts.Sound (with_found sum context) command, [])
 Progresses settings context rest (progress.Refused code) = Judges settings context.moment false rest (verdicts.Refused code context.head_only, [])
 Progresses settings context rest progress.Died = Unit {0}
 
@@ -87,25 +91,26 @@ IsCut settings context rest (Err code) = Judges settings context.moment true res
 -- bytes of the body are still to come
 abbrev pub is_open : Progress → Bool
 is_open (progress.Open incoming) = true
-is_open (progress.Whole command) = false
+is_open (progress.Whole command sum) = false
 is_open (progress.Refused code) = false
 is_open progress.Died = false
 
--- what becomes of a message with its command, or with what that refuses
-abbrev pub settled_as : Result Command Code → Progress
-settled_as (Ok command) = progress.Whole command
-settled_as (Err code) = progress.Refused code
+-- what becomes of a message with its command and the checksum that was found of its body, or with what the command refuses
+abbrev pub settled_as : Option Checksum → Result Command Code → Progress
+settled_as sum (Ok command) = progress.Whole command sum
+settled_as sum (Err code) = progress.Refused code
 
--- what becomes of a message with its whole body: memory may run out where its operation reads that, and where there are data in it
-abbrev pub IsCommanded : Plan → List ℕ → Progress → Type 0
-IsCommanded plan payload settled =
-    ((settled ≡ progress.Died) × (reads_body plan ≡ true) × (0 < length payload)) ⊎ (settled ≡ settled_as (command_of plan payload))
+-- what becomes of a message with its whole body, and the checksum that was found of it: memory may run out where its command
+-- takes some
+abbrev pub IsCommanded : Plan → Option Checksum → List ℕ → Progress → Type 0
+IsCommanded plan sum payload settled =
+    ((settled ≡ progress.Died) × CommandTakes plan sum payload) ⊎ (settled ≡ settled_as sum (command_of plan sum payload))
 
--- what becomes of a message by what its reader says
-abbrev pub Settles : Incoming → bodies.Verdict → Progress → Type 0
-Settles incoming (bodies.Open held) settled = settled ≡ progress.Open incoming
-Settles incoming (bodies.Accepted payload) settled = IsCommanded incoming.admission.plan payload settled
-Settles incoming (bodies.Refused place code) settled = Unit {0}
+-- what becomes of a message by what its reader says, where its body was announced in this form
+abbrev pub Settles : Form → Incoming → bodies.Verdict → Progress → Type 0
+Settles form incoming (bodies.Open held) settled = settled ≡ progress.Open incoming
+Settles form incoming (bodies.Accepted payload) settled = IsCommanded incoming.admission.plan (found_sum form payload) payload settled
+Settles form incoming (bodies.Refused place code) settled = Unit {0}
 
 -- a refusal by the reader or by the operation: want of memory is none of the message
 abbrev pub IsRefusedBy : Code → Progress → Type 0
@@ -114,6 +119,6 @@ IsRefusedBy code settled = ((code ≡ InternalError) × (settled ≡ progress.Di
 -- what its reply takes from it, where it has one still
 abbrev pub context_in : Context → Progress → Context
 context_in context (progress.Open incoming) = incoming.context
-context_in context (progress.Whole command) = context
+context_in context (progress.Whole command sum) = context
 context_in context (progress.Refused code) = context
 context_in context progress.Died = context

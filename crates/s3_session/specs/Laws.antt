@@ -8,6 +8,7 @@ use Rattle.s3_http_heads.specs.declared.find.Found.TheVariants as found
 use Rattle.s3_http_heads.specs.Head.{HeadParts}
 use Rattle.s3_http_heads.specs.Message.{IsMessage}
 use Rattle.s3_aws_chunked.specs.Verdict.{Accepted}
+use Rattle.s3_payloads.specs.FoundSum.{found_sum}
 use Rattle.s3_payloads.specs.Verdict as payloads
 use Rattle.s3_machine.specs.declared.command.Command.{Command}
 use Rattle.s3_requests.specs.Commands.{command_of}
@@ -15,7 +16,7 @@ use Rattle.s3_replies.specs.declared.context.Context.{Context}
 use Rattle.s3_session.specs.Verdict.{Verdict}
 use Rattle.s3_session.specs.Verdict as verdicts
 use Rattle.s3_session.specs.Admission.{Asked, admission_of}
-use Rattle.s3_session.specs.Decision.{Decision, Judges, context_of, open_yet}
+use Rattle.s3_session.specs.Decision.{Decision, Judges, context_of, open_yet, with_found}
 use Rattle.s3_session.specs.Invitation.{Invites}
 use Rattle.s3_session.specs.Output.{Past, Standing, Reading, Writes, is_dead}
 use Rattle.s3_session.specs.Replay.{LiveReplays, Replays}
@@ -63,7 +64,8 @@ InvitationsStay =
     → Invites settings moment bytes text → Invites settings moment (bytes ++ more) text
 
 -- at the front of the bytes stands a whole message, and then the rest: its head asks for this, its body is accepted
--- with this payload, the context is what the head says of the reply, and the operation makes this command of the payload
+-- with this payload, the context is what the head says of the reply and the checksum that was found of the payload, and the
+-- operation makes this command of both
 pub record IsSound (settings : Settings) (moment : ℕ) (bytes : List ℕ) (context : Context) (command : Command) (rest : List ℕ) : Type 0 where
   pub head : HeadParts
   pub body : List ℕ
@@ -72,8 +74,8 @@ pub record IsSound (settings : Settings) (moment : ℕ) (bytes : List ℕ) (cont
   pub message : IsMessage bytes head body rest
   pub admitted : admission_of settings head moment ≡ Ok asks
   pub accepted : payloads.Judges asks.announced body false (Accepted payload)
-  pub replied : context ≡ context_of settings.dialect head moment
-  pub asked : command_of asks.plan payload ≡ Ok command
+  pub replied : context ≡ with_found (found_sum asks.announced.form payload) (context_of settings.dialect head moment)
+  pub asked : command_of asks.plan (found_sum asks.announced.form payload) payload ≡ Ok command
 
 -- a sound verdict is about a sound message at the front of the bytes
 abbrev pub SoundMessages : Type 0

@@ -15,7 +15,7 @@ use Rattle.s3_outbox.specs.Outbox.{Sending, with_room}
 use Rattle.s3_replies.specs.declared.context.Context.{Context}
 use Rattle.s3_replies.specs.Replies.{PrintsRefusal, internal_error}
 use Rattle.s3_session.specs.Verdict as verdicts
-use Rattle.s3_session.specs.Decision.{Judges}
+use Rattle.s3_session.specs.Decision.{Judges, with_found}
 use Rattle.s3_session.specs.Fault.{most_counted}
 use Rattle.s3_session.specs.Invitation.{Invites}
 use Rattle.s3_session.specs.Incoming.{IsInBody}
@@ -139,7 +139,7 @@ Asks context command old new need =
 abbrev pub GoesOn : Context → Progress → Connection → Connection → Need → Type 0
 GoesOn context (progress.Open incoming) old new need =
     (need ≡ needs.More) × (new.stage ≡ stages.Body incoming) × (new.outbox ≡ old.outbox)
-GoesOn context (progress.Whole command) old new need = Asks context command old new need
+GoesOn context (progress.Whole command sum) old new need = Asks (with_found sum context) command old new need
 GoesOn context (progress.Refused code) old new need =
     (need ≡ needs.Close)
     × (new.stage ≡ stages.Closed (closings.Refused context.moment code))

@@ -9,6 +9,7 @@ ghost use Rattle.s3_session.specs.Incoming as rules;
 
 use crate::admission::Admission;
 use s3_bodies::Payload;
+use s3_integrity::Checksum;
 use s3_machine::Command;
 use s3_payloads::{
     accepted_bodies_are_whole, open_bodies_are_short, payloads_are_judged, refusals_stand,
@@ -46,8 +47,8 @@ impl Model for Receiving {
 pub(crate) enum Progress {
     // Bytes of the body are still to come.
     Open(Receiving),
-    // It is sound, and this is its command.
-    Whole(Command),
+    // It is sound: its command, and the checksum that was found of its body.
+    Whole(Command, Option<Checksum>),
     // It is refused.
     Refused(Code),
     // Memory ran out.
@@ -124,15 +125,16 @@ impl Receiving {
     fn settled(self, alloc: Global) -> Progress
         ensures settles { (announced : Announced) (bytes : List ℕ) (ended : Bool)
             → Stands self.admission.reader announced bytes ended
-            → rules.Settles self (verdict_of self.admission.reader) result }
+            → rules.Settles announced.form self (verdict_of self.admission.reader) result }
         ensures kept { rules.context_in self.context result ≡ self.context }
     {
         if !self.incoming.admission.reader.is_whole() {
             return Progress::Open(self);
         }
         let Admission { reader, plan, .. } = Box::into_inner(self.incoming).admission;
+        let sum = reader.sum();
         match reader.finish() {
-            Ok(payload) => commanded(alloc, plan, payload),
+            Ok(payload) => commanded(alloc, plan, sum, payload),
             Err(code) => {
                 drop(plan);
                 Progress::Refused(code)
@@ -141,13 +143,13 @@ impl Receiving {
     }
 }
 
-// What becomes of a message with its whole body.
-fn commanded(alloc: Global, plan: Plan, payload: Payload) -> Progress
-    ensures settles { rules.IsCommanded plan payload result }
+// What becomes of a message with its whole body, and the checksum that was found of it.
+fn commanded(alloc: Global, plan: Plan, sum: Option<Checksum>, payload: Payload) -> Progress
+    ensures settles { rules.IsCommanded plan sum payload result }
     ensures kept { (context : Context) → rules.context_in context result ≡ context }
 {
-    match command(alloc, plan, payload) {
-        Ok(command) => Progress::Whole(command),
+    match command(alloc, plan, sum, payload) {
+        Ok(command) => Progress::Whole(command, sum),
         Err(code) => refused(code),
     }
 }

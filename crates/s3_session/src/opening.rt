@@ -15,6 +15,7 @@ use s3_calendar::Moment;
 use s3_config::Config;
 use s3_http_heads::{Head, texts_say_one_thing};
 use s3_replies::Context;
+use s3_requests::asks_for_checksums;
 use s3_terms::{Code, Dialect, NoMemory};
 use std::alloc::Global;
 
@@ -118,5 +119,7 @@ fn context_of(config: &Config, head: &Head, moment: Moment) -> Context
         head_only: head.asks_head_only(),
         closes: head.closes(),
         dialect: config.dialect(),
+        tells_checksums: asks_for_checksums(config.dialect(), head),
+        checksum: None,
     }
 }

@@ -367,7 +367,13 @@ impl Session {
                 go_to(&mut self.stage, Stage::Body(incoming));
                 Need::More
             }
-            Progress::Whole(command) => self.ask(context, command),
+            Progress::Whole(command, checksum) => {
+                let told = Context {
+                    checksum,
+                    ..context
+                };
+                self.ask(told, command)
+            }
             Progress::Refused(code) => {
                 self.refuse(code, context.moment, context.head_only, context.dialect);
                 Need::Close

@@ -42,7 +42,7 @@ fn payload_of(alloc: Global, bytes: &[u8]) -> Result<Payload, Code> {
 // The command of a plan and of this body.
 fn planned(alloc: Global, plan: Plan, body: &[u8]) -> Result<Command, Code> {
     match payload_of(alloc, body) {
-        Ok(payload) => command(alloc, plan, payload),
+        Ok(payload) => command(alloc, plan, None, payload),
         Err(code) => {
             drop(plan);
             Err(code)

@@ -420,6 +420,8 @@ fn context_of(row: &Row) -> Option<Context> {
         head_only: row.is_head,
         closes: row.closes,
         dialect: row.dialect,
+        tells_checksums: false,
+        checksum: None,
     })
 }
 

@@ -1,5 +1,5 @@
 use Rattle.std.proofs.Common.{rules}
-use Rattle.s3_replies.specs.declared.lines.Entries.TheVariants.{All}
+use Rattle.s3_replies.specs.Lines.{entries_by}
 use Rattle.s3_replies.proofs.LineLemmas.{size-told, count-told, type_fits}
 use Rattle.s3_replies.proofs.objects.object_head.Goals as goal
 
@@ -17,6 +17,6 @@ print-requires-clause-fits g c =
       modified = search rules;
       content_range = search rules;
       content_type = rw c.type_left.ensures (type_fits c.entries.result.now c.as_bytes-2.result.now (search rules));
-      metadata = size-told All c.entries-3.result.now c.entries-2.result.now (rw kept.value kept.size) (rw set.value set.size);
-      metadata_count = count-told All c.entries-3.result.now c.entries-2.result.now (rw kept.value kept.count) (rw set.value set.count);
+      metadata = rw c.shown.ensures (size-told (entries_by c.args.tells_checksums) c.entries-3.result.now c.entries-2.result.now (rw kept.value kept.size) (rw set.value set.size));
+      metadata_count = rw c.shown.ensures (count-told (entries_by c.args.tells_checksums) c.entries-3.result.now c.entries-2.result.now (rw kept.value kept.count) (rw set.value set.count));
     }

@@ -5,7 +5,8 @@ pub returns : goal.returns
 returns c =
     let shown = c.replies_show_what_came.ensures in
     let below : LawsBelow = record {
-      plans = c.plans_are_unbroken.ensures;
+      plans = c.plans_are_unbroken.ensures.plans;
+      sums = c.plans_are_unbroken.ensures.sums;
       messages = c.sound_verdicts_are_exact.ensures.message;
       tags = shown.tags;
       success = shown.success;
