@@ -1,4 +1,4 @@
-//! Heads of HTTP/1.1 messages: where a head text ends, what it says, and how long its body is.
+//! Heads of HTTP/1.1 messages: where a head text ends, what it says, and where its body ends.
 #![tactic(auto)]
 
 mod body_length;
@@ -10,7 +10,9 @@ mod search;
 mod target;
 mod text;
 
-pub use body_length::{announced_length, framing, messages_are_cut_once};
+pub use body_length::{
+    BodyFraming, announced_length, decoded_length, framing, messages_are_cut_once,
+};
 pub use find::{
     Found, HEAD_LIMIT, find_head, pairs_may_be_dropped, skipped, verdict_is_exact, verdicts_stay,
 };

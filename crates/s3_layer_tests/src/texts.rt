@@ -42,7 +42,7 @@ pub(crate) fn add_told(out: &mut Vec<u8>, told: Told) {
 }
 
 // The names of texts that many rows have in common: lines of heads, and parts of them.
-static NAMED: [(&str, &str); 45] = [
+static NAMED: [(&str, &str); 52] = [
     ("GET_TEST", "GET /test.txt HTTP/1.1\r\n"),
     (
         "HOST",
@@ -121,6 +121,28 @@ static NAMED: [(&str, &str); 45] = [
         "STREAMING",
         "x-amz-content-sha256: STREAMING-AWS4-HMAC-SHA256-PAYLOAD\r\n",
     ),
+    (
+        "CODED",
+        "transfer-encoding: chunked\r\nx-amz-decoded-content-length: 5\r\n",
+    ),
+    (
+        "SEALED_TRAILER",
+        "x-amz-content-sha256: STREAMING-AWS4-HMAC-SHA256-PAYLOAD-TRAILER\r\n",
+    ),
+    ("CRC32_BEHIND", "x-amz-trailer: x-amz-checksum-crc32\r\n"),
+    (
+        "TRAILED",
+        "5\r\nhello\r\n0\r\nx-amz-checksum-crc32:NhCmhg==\r\n\r\n",
+    ),
+    (
+        "SIGNED",
+        "5;chunk-signature=5cd4227fa3ee4d51e22dd5eb7b7976958d2dbc7adfb5c07d6a3cf1efbe91118c\r\nhello\r\n0;chunk-signature=71c07f8042ab7f4c6d30cb7a52718830fa4a930e880624c08da6ff1d02b2c19c\r\n\r\n",
+    ),
+    (
+        "SEALED",
+        "5;chunk-signature=24f14badd5c4414ab2b9b1bdb06b3a8079e55bab92df171fb49b936fb9b99370\r\nhello\r\n0;chunk-signature=d0e39dea796c86123ac0883901bf70d7e03941167f1556cf7d37b755ab707d5d\r\nx-amz-checksum-crc32:NhCmhg==\r\nx-amz-trailer-signature:551e425f3f9722c866ee4c7c7f12cf05a87fd7abc54f87b36ed24ba282c84aa2\r\n\r\n",
+    ),
+    ("NO_MORE", "\r\n0\r\n\r\n"),
     (
         "PUT_LETTERS",
         "PUT /examplebucket/chunkObject.txt HTTP/1.1\r\nhost: s3.amazonaws.com\r\nx-amz-date: 20130524T000000Z\r\nx-amz-storage-class: REDUCED_REDUNDANCY\r\nx-amz-content-sha256: STREAMING-AWS4-HMAC-SHA256-PAYLOAD\r\ncontent-encoding: aws-chunked\r\nx-amz-decoded-content-length: 66560\r\ncontent-length: 66824\r\n",

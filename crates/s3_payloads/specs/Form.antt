@@ -123,19 +123,11 @@ form_of settings head word =
     else if bytes_eq word trailed_chunks then trailed_chunks_form settings head true
     else whole_form settings head word
 
--- what was announced of a body: how many bytes it has as it is sent, by Content-Length, how it is sent, and what
--- its head has proved
+-- what was announced of a body: how many bytes it has as it is sent, how it is sent, and what its head has proved
 pub record Announced : Type 0 where
   pub length : ℕ
   pub form : Form
   pub proved : Proved
-
--- what a head announces of its body, which has so many bytes as it is sent, once it has proved this, or what is wrong
--- with it
-unfoldable pub announced_payload : Settings → HeadParts → ℕ → Proved → Result Announced Code
-announced_payload settings head size proved = do
-  form ← form_of settings head proved.word
-  Ok (record { length = size; form = form; proved = proved })
 
 -- the body is sent as it is, and not in chunks
 abbrev pub IsSentAsItIs : Form → Type 0

@@ -1,7 +1,7 @@
 -- How a reader of a payload stands after all bytes so far.
 -- `Stands` is what the clauses of the reader carry along. What it comes to is a law, `payloads_are_judged`: the
 -- verdict on these bytes. So its inside need not be believed.
-use Rattle.std.specs.Prelude.{◌≡◌, ℕ, Bool, true, false, List, [], ◌++◌, length, Result, Ok, Err, ⊤}
+use Rattle.std.specs.Prelude.{◌≡◌, ℕ, Bool, true, false, List, ◌++◌, length, Result, ⊤}
 use Rattle.s3_terms.specs.declared.code.Code.{Code}
 use Rattle.s3_aws_chunked.specs.Verdict.{Verdict}
 use Rattle.s3_aws_chunked.specs.Reader as chunked
@@ -46,12 +46,6 @@ ModeStands (modes.Trailed trailed) announced bytes ended = TrailedFor announced.
 -- stands there; memory never ran out
 abbrev pub Stands : PayloadReader → Announced → List ℕ → Bool → Type 0
 Stands reader announced bytes ended = ModeStands reader.mode announced bytes ended
-
--- a reader that has begun stands before all bytes of what was announced; none begins where something is wrong with
--- that, and this is what
-abbrev pub Begins : Result Announced Code → Result PayloadReader Code → Type 0
-Begins rule (Ok reader) = (announced : Announced) × (rule ≡ Ok announced) × Stands reader announced [] false
-Begins rule (Err code) = rule ≡ Err code
 
 abbrev pub mode_verdict : Mode → Verdict
 mode_verdict (modes.Whole whole) = told whole.bytes whole.stage

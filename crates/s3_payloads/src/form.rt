@@ -4,17 +4,15 @@ ghost use Rattle.std.specs.Prelude.{◌≡◌, ◌≤◌, codes, option_and_then
 ghost use Rattle.std.specs.List.{list_any};
 ghost use Rattle.s3_http_heads.specs.Head.{is_sent, only, values_of};
 ghost use Rattle.s3_integrity.specs.Algorithm.{header_of, named};
-ghost use Rattle.s3_http_heads.specs.BodyLength.{decoded_length};
 ghost use Rattle.s3_signing.specs.Word.{unsigned_payload, word_text};
 ghost use Rattle.s3_payloads.specs.Form as rules;
 
 use base64::engine::general_purpose::STANDARD;
 use s3_config::Config;
-use s3_http_heads::{Head, Method};
+use s3_http_heads::{Head, Method, decoded_length};
 use s3_integrity::{Checksum, ChecksumAlgorithm};
 use s3_signing::Word;
 use s3_terms::{Code, Dialect};
-use s3_text::decimal_number;
 
 // How long the base64 of an MD5 is.
 const DIGEST_TEXT_LEN: usize = 24;
@@ -190,20 +188,7 @@ fn says_checksum(dialect: Dialect, head: &Head) -> bool
     }
 }
 
-// The number of bytes that the chunks hold together, where one line says it in decimal digits.
-fn decoded_length(head: &Head) -> Option<u64>
-    ensures { result ≡ decoded_length head.now }
-{
-    if head.count(b"x-amz-decoded-content-length") != 1 {
-        return None;
-    }
-    match head.first(b"x-amz-decoded-content-length") {
-        Some(value) => decimal_number(value, 18),
-        None => None,
-    }
-}
-
-// The same, past what is wrong with it.
+// Chunks, past what is wrong with the number of bytes that they hold together.
 #[tactic(auto, unfolding(crate::specs::Form::chunks_form))]
 fn chunks_form(config: &Config, head: &Head) -> Result<Form, Code>
     ensures { result ≡ rules.chunks_form config.now head.now }

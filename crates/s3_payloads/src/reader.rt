@@ -3,19 +3,17 @@
 ghost use Rattle.std.specs.Prelude.{◌≡◌, ◌≤◌, ◌+◌, ℕ, Bool, false, List, [], length, Err, IfErr, IfOk};
 ghost use Rattle.s3_aws_chunked.specs.Reader.{said_at_end};
 ghost use Rattle.s3_aws_chunked.specs.Verdict.{Accepted, accepts};
-ghost use Rattle.s3_payloads.specs.Form.{Announced, announced_payload};
+ghost use Rattle.s3_payloads.specs.Form.{Announced};
 ghost use Rattle.s3_payloads.specs.FoundSum.{found_sum};
 ghost use Rattle.s3_payloads.specs.Outcome.{finished};
 ghost use Rattle.s3_payloads.specs.Reader.{ModeStands};
 
 use crate::chunks::ChunksReader;
 use crate::either_chunks::EitherChunks;
-use crate::form::{Form, form_of};
+use crate::form::Form;
 use crate::trailed::TrailedReader;
 use crate::whole::WholeReader;
 use s3_bodies::Payload;
-use s3_config::Config;
-use s3_http_heads::Head;
 use s3_integrity::Checksum;
 use s3_signing::Verified;
 use s3_terms::Code;
@@ -66,29 +64,16 @@ pub struct PayloadReader {
 }
 
 impl PayloadReader {
-    ghost use Rattle.s3_payloads.specs.Reader.{Begins, HasFailed, IsEnded, IsFed, Stands, taken_of, verdict_of};
+    ghost use Rattle.s3_payloads.specs.Reader.{HasFailed, IsEnded, IsFed, Stands, taken_of, verdict_of};
 
-    /// The reader of the body behind this head, of which nothing has come, and which has so many bytes as it is sent
-    /// (`s3_http_heads::framing`). Takes no memory.
-    ///
-    /// # Errors
-    ///
-    /// Those of `form_of`: `InvalidRequest`, `EntityTooLarge`, `InvalidDigest` and `NotImplemented`, where what the head says
-    /// of its body is wrong or isn't served.
-    #[tactic(auto, unfolding(crate::specs::Form::announced_payload))]
-    pub fn new(
-        alloc: Global,
-        config: &Config,
-        head: &Head,
-        size: u64,
-        verified: Verified,
-    ) -> Result<PayloadReader, Code>
-        ensures { Begins (announced_payload config.now head.now size verified) result }
+    /// The reader of a body that is sent in this form, of which nothing has come, and which has so many bytes as it is sent,
+    /// behind a head that was verified. Takes no memory.
+    pub fn new(alloc: Global, form: Form, size: u64, verified: &Verified) -> PayloadReader
+        ensures { Stands result (record { length = size; form = form; proved = verified.now }) [] false }
     {
-        let form = form_of(config, head, &verified.word())?;
-        Ok(PayloadReader {
-            mode: mode_of(alloc, form, size, &verified),
-        })
+        PayloadReader {
+            mode: mode_of(alloc, form, size, verified),
+        }
     }
 
     /// Whether it has read a whole body, with nothing wrong.

@@ -5,7 +5,8 @@ use Rattle.std.proofs.lemmas.List.{length-append, take-append-le, take_at}
 use Rattle.s3_http_heads.specs.Find.{found_in, skip_pairs, head_end, EndsHead}
 use Rattle.s3_http_heads.specs.declared.find.Found.TheVariants as found
 use Rattle.s3_http_heads.specs.Head.{HeadParts}
-use Rattle.s3_http_heads.specs.Message.{IsMessage}
+use Rattle.s3_http_heads.specs.Message.{IsMessageBy}
+use Rattle.s3_framed_bodies.specs.Framed.{Ends}
 use Rattle.s3_session.specs.Invitation.{Invites}
 use Rattle.s3_session.specs.Laws.{InvitationsStay, OneInvitation, SoundAlone, SoundIsJudged, SoundMessages, SoundWalksAlone, VerdictsStay}
 use Rattle.s3_session.specs.Walk.{Walks}
@@ -54,9 +55,9 @@ head_found exact bytes whole front behind n before after within at =
     })
 
 -- so some first bytes are a whole message, with nothing behind it
-message_front : IsExact → (bytes body rest : List ℕ) (head : HeadParts) → (m : IsMessage bytes head body rest)
+message_front : IsExact → (ends_there : List ℕ → Type 0) (bytes body rest : List ℕ) (head : HeadParts) → (m : IsMessageBy ends_there bytes head body rest)
     → (whole : List ℕ) × (bytes ≡ whole ++ rest) × IsFront whole m.text body
-message_front exact bytes body rest head m =
+message_front exact ends_there bytes body rest head m =
     let size = length m.text in
     let joined : skip_pairs bytes ≡ (m.text ++ body) ++ rest = m.joined ∙ sym (append_assoc m.text body rest) in
     let ends = ((exact bytes size).0 m.found).ends in
@@ -71,7 +72,7 @@ pub sound_alone : IsExact → SoundMessages → SoundIsJudged → OneInvitation 
 sound_alone exact messages judged one settings moment ended bytes rest context command is =
     let s = messages settings moment ended bytes rest context command is in
     let m = s.message in
-    let w = message_front exact bytes s.body rest s.head m in
+    let w = message_front exact (Ends s.asks.announced.framing) bytes s.body rest s.head m in
     let told = said_invites settings moment ended bytes m.text (s.body ++ rest) s.head (record { found = m.found; joined = m.joined }) m.says in
     let tells = said_invites settings moment false w.0 m.text s.body s.head w.2 m.says in (
       w.0,

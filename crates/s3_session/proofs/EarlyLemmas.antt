@@ -14,7 +14,8 @@ use Rattle.s3_requests.specs.Commands.{command_of}
 use Rattle.s3_replies.specs.declared.context.Context.{Context}
 use Rattle.s3_session.specs.Verdict as verdicts
 use Rattle.s3_aws_chunked.specs.Verdict as bodies
-use Rattle.s3_payloads.specs.Laws.{EndsDecide}
+use Rattle.s3_framed_bodies.specs.Framed.{size_in}
+use Rattle.s3_framed_bodies.specs.Laws.{EndsDecide}
 use Rattle.s3_session.specs.Admission.{Asked, admission_of}
 use Rattle.s3_session.specs.Decision.{Decision, Judges, AskedJudged, TextJudged, FoundJudged, commanded, text_at, behind_text, open_yet}
 use Rattle.s3_session.specs.Output.{HasText}
@@ -30,7 +31,7 @@ module _ (decide : EndsDecide) (settings : Settings) (moment : ℕ) (bytes : Lis
   asked_decided head behind (Err code) is = let same = ap (λ (d : Decision). d.0) is in absurd (cc)
   asked_decided head behind (Ok asked) (bodies.Open held, judged, is) = decide asked.announced behind (bodies.Open held) judged
   asked_decided head behind (Ok asked) (bodies.Accepted payload, judged, is) =
-      commanded_decided settings.dialect head moment (found_sum asked.announced.form payload) (drop asked.announced.length behind) (command_of asked.plan (found_sum asked.announced.form payload) payload) is
+      commanded_decided settings.dialect head moment (found_sum asked.announced.form payload) (drop (size_in asked.announced.framing behind) behind) (command_of asked.plan (found_sum asked.announced.form payload) payload) is
   asked_decided head behind (Ok asked) (bodies.Refused place code, judged, is) = let same = ap (λ (d : Decision). d.0) is in absurd (cc)
 
   text_decided : (text behind : List ℕ) → ¬ (TextJudged settings moment true text behind open_yet)

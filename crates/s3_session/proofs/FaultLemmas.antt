@@ -18,7 +18,7 @@ use Rattle.s3_session.specs.Stands.{HereOr, IsRefusedWith, Stands, StandsAt}
 use Rattle.s3_session.specs.declared.session.Stage.{Stage}
 use Rattle.s3_session.specs.declared.session.Stage.TheVariants as stages
 use Rattle.s3_session.specs.declared.session.Closing.TheVariants as closings
-use Rattle.s3_payloads.specs.Laws.{PayloadsJudge}
+use Rattle.s3_framed_bodies.specs.Laws.{ReadersJudge}
 use Rattle.s3_session.proofs.OutputLemmas.{Agrees, standing_told, told}
 use Rattle.s3_session.proofs.StandsLemmas.{behind_stays, stands_behind, walk_more}
 use Rattle.s3_session.proofs.StayLemmas.{HeadsStay}
@@ -160,7 +160,7 @@ module _ (settings : Settings) (session : Connection) (past : Past) (sent : List
               let never = sym refused.1 ∙ none in cc)
         ]
 
-    pub none_told : PayloadsJudge → VerdictsStay → InvitationsStay → HeadsStay → (more : List ℕ) (ended : Bool) → IsUnheard (standing_of session) past more ended
+    pub none_told : ReadersJudge → VerdictsStay → InvitationsStay → HeadsStay → (more : List ℕ) (ended : Bool) → IsUnheard (standing_of session) past more ended
         → HasNoFault settings (past.bytes ++ more) ended moments
     none_told judge stay invited heads more ended (inl nothing) =
         let here = stands_behind judge settings session past.ended h.waiting h.last h.left h.here in

@@ -11,9 +11,9 @@ use Rattle.s3_http_heads.specs.declared.find.Found.TheVariants as found
 use Rattle.s3_http_heads.specs.Head.{HeadParts, Says}
 use Rattle.s3_aws_chunked.specs.Verdict as bodies
 use Rattle.s3_aws_chunked.specs.Reader.{said_at_end}
-use Rattle.s3_payloads.specs.Laws.{OpenBodiesEndIncomplete, PayloadsJudge}
-use Rattle.s3_payloads.specs.Reader.{verdict_of}
-use Rattle.s3_payloads.specs.Verdict as payloads
+use Rattle.s3_framed_bodies.specs.Laws.{OpenBodiesEndIncomplete, ReadersJudge}
+use Rattle.s3_framed_bodies.specs.Reader.{verdict_of}
+use Rattle.s3_framed_bodies.specs.Verdict as framed
 use Rattle.s3_session.specs.Verdict as verdicts
 use Rattle.s3_session.specs.declared.incoming.Incoming.{Incoming}
 use Rattle.s3_session.specs.Admission.{Asked, admission_of}
@@ -54,7 +54,7 @@ module _ (settings : Settings) (moment : ℕ) (ended : Bool) (rest text behind :
 
   -- where the head is admitted, that is what is known of its body
   pub body_judged : IsFront rest text behind → Says text head → (asked : Asked) → admission_of settings head moment ≡ Ok asked
-      → (verdict : bodies.Verdict) → payloads.Judges asked.announced behind ended verdict
+      → (verdict : bodies.Verdict) → framed.Judges asked.announced behind ended verdict
       → Judges settings moment ended rest (concluded settings.dialect head moment asked behind verdict)
   body_judged f says asked admitted verdict judged =
       said_judged f says (concluded settings.dialect head moment asked behind verdict)
@@ -70,11 +70,11 @@ module _ (settings : Settings) (moment : ℕ) (ended : Bool) (rest text behind :
       (inr (head, subst (λ (t : List ℕ). Says t head) (sym here) says, refl))
 
 -- a message is refused where its bytes end inside its body
-module _ (judge : PayloadsJudge) (incomplete : OpenBodiesEndIncomplete) (settings : Settings) (incoming : Incoming) (rest : List ℕ) (h : IsInBody settings incoming rest) where
+module _ (judge : ReadersJudge) (incomplete : OpenBodiesEndIncomplete) (settings : Settings) (incoming : Incoming) (rest : List ℕ) (h : IsInBody settings incoming rest) where
   refused_at_end : Judges settings incoming.context.moment true rest (verdicts.Refused IncompleteBody incoming.context.head_only, [])
   refused_at_end =
       let b = h.begun in
-      let undecided = subst (λ (v : bodies.Verdict). payloads.Judges b.asked.announced b.behind false v) h.undecided (judge incoming.admission.reader b.asked.announced b.behind false b.stands) in
+      let undecided = subst (λ (v : bodies.Verdict). framed.Judges b.asked.announced b.behind false v) h.undecided (judge incoming.admission.reader b.asked.announced b.behind false b.stands) in
       let cut = incomplete b.asked.announced b.behind h.held undecided in
       let known = body_judged settings incoming.context.moment true rest b.text b.behind b.head (record { found = b.found; joined = b.joined }) b.says b.asked b.admitted
       (bodies.Refused (length b.behind) IncompleteBody) cut in

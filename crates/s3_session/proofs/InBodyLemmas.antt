@@ -4,8 +4,8 @@ use Rattle.std.proofs.lemmas.List.{drop_at, length-map, take_at}
 use Rattle.s3_config.specs.Settings.{Settings}
 use Rattle.s3_http_heads.specs.Head.{Says}
 use Rattle.s3_aws_chunked.specs.Verdict as bodies
-use Rattle.s3_payloads.specs.Laws.{PayloadsJudge}
-use Rattle.s3_payloads.specs.Verdict as payloads
+use Rattle.s3_framed_bodies.specs.Laws.{ReadersJudge}
+use Rattle.s3_framed_bodies.specs.Verdict as framed
 use Rattle.s3_session.specs.Decision.{AwaitsBody, behind_text, text_at}
 use Rattle.s3_session.specs.Output.{Behind, Exchange, Past, Reading, ReadsBody, Serves, Standing, is_dead}
 use Rattle.s3_session.specs.Laws.{OneWriting}
@@ -20,12 +20,12 @@ use Rattle.s3_session.specs.Session.{Connection, moment_at, standing_at, standin
 use Rattle.s3_session.proofs.StandsLemmas.{body_in, receiving_at, stands_behind}
 
 -- the verdict on the body of a message that is open
-awaits : PayloadsJudge → (settings : Settings) (incoming : Incoming) (rest : List ℕ) → IsInBody settings incoming rest → AwaitsBody settings incoming.context.moment false rest
+awaits : ReadersJudge → (settings : Settings) (incoming : Incoming) (rest : List ℕ) → IsInBody settings incoming rest → AwaitsBody settings incoming.context.moment false rest
 awaits judge settings incoming rest h =
     let b = h.begun in
     let here : text_at (length b.text) rest ≡ b.text = ap (take (length b.text)) b.joined ∙ take_at b.text b.behind (length b.text) refl in
     let there : behind_text (length b.text) rest ≡ b.behind = ap (drop (length b.text)) b.joined ∙ drop_at b.text b.behind (length b.text) refl in
-    let judged = subst (λ (v : bodies.Verdict). payloads.Judges b.asked.announced b.behind false v) h.undecided (judge incoming.admission.reader b.asked.announced b.behind false b.stands) in
+    let judged = subst (λ (v : bodies.Verdict). framed.Judges b.asked.announced b.behind false v) h.undecided (judge incoming.admission.reader b.asked.announced b.behind false b.stands) in
     record {
       size = length b.text;
       found = b.found;
@@ -34,11 +34,11 @@ awaits judge settings incoming rest h =
       asked = b.asked;
       admitted = b.admitted;
       held = h.held;
-      undecided = subst (λ (t : List ℕ). payloads.Judges b.asked.announced t false (bodies.Open h.held)) (sym there) judged;
+      undecided = subst (λ (t : List ℕ). framed.Judges b.asked.announced t false (bodies.Open h.held)) (sym there) judged;
     }
 
 module _ (settings : Settings) (session : Connection) (past : Past) (sent : List ℕ) (h : Stands session settings past sent) where
-  reads_at : PayloadsJudge → (incoming : Incoming) → session.stage ≡ stages.Body incoming → ReadsBody settings past
+  reads_at : ReadersJudge → (incoming : Incoming) → session.stage ≡ stages.Body incoming → ReadsBody settings past
   reads_at judge incoming at =
       let a = receiving_at settings session past.ended incoming h.left h.waiting h.last at h.here in
       record {
@@ -60,7 +60,7 @@ module _ (settings : Settings) (session : Connection) (past : Past) (sent : List
       }
 
   -- one that reads a body does
-  pub reads_body : PayloadsJudge → is_in_body session.stage ≡ true → ReadsBody settings past
+  pub reads_body : ReadersJudge → is_in_body session.stage ≡ true → ReadsBody settings past
   reads_body judge is = let body = body_in session.stage is in reads_at judge body.0 body.1
 
   -- as many answers as moments are no more moments than answers

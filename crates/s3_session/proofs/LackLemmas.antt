@@ -4,10 +4,13 @@ use Rattle.std.specs.Prelude.{⊤, if◌then◌else◌, ok_or, not, ◌&&◌, �
 use Rattle.s3_config.specs.Settings.{Settings, secret_of}
 use Rattle.s3_terms.specs.Fault.{refuse, ◌>>◌, ◌>>=◌}
 use Rattle.s3_terms.specs.declared.dialect.Dialect.{Dialect}
+use Rattle.s3_terms.specs.declared.dialect.Dialect.TheVariants.{Json, S3}
 use Rattle.s3_terms.specs.declared.code.Code.{Code}
 use Rattle.s3_terms.specs.declared.code.Code.TheVariants.{AccessDenied, AuthorizationHeaderMalformed, AuthorizationQueryParametersError, EntityTooLarge, InternalError, InvalidAccessKeyId, InvalidArgument, InvalidRequest, InvalidURI, MissingContentLength, NotImplemented, RequestTimeTooSkewed}
 use Rattle.s3_calendar.specs.Moment.{stamp_seconds}
-use Rattle.s3_http_heads.specs.BodyLength.{announced, framing_of, length_lines, needs_length}
+use Rattle.s3_http_heads.specs.BodyLength.{announced, coded_framing, decoded_length, framing_of, framing_with_coding, length_lines, may_be_coded, needs_length, sized_framing}
+use Rattle.s3_http_heads.specs.declared.body_length.BodyFraming.{BodyFraming}
+use Rattle.s3_http_heads.specs.declared.body_length.BodyFraming.TheVariants.{Sized, Coded}
 use Rattle.s3_http_heads.specs.Head.{HeadParts, first_value, is_sent}
 use Rattle.s3_http_heads.specs.Target.{TargetParts, target_of}
 use Rattle.s3_signing.specs.Presigned.{Presigned, check_algorithm, is_presigned, presigned_at, presigned_expires, presigned_parts, presigned_stamp, sent_once}
@@ -52,12 +55,33 @@ never_some None code other = never_err code other
 
 -- ---- of the lines of a head
 
-never_framed : (head : HeadParts) (limit : ℕ) → Never (framing_of head limit)
-unfolding framing_of
-never_framed head limit =
-    never_refuse (is_sent (codes "transfer-encoding") head) NotImplemented refl _ (never_then _ _ (never_some (announced (length_lines head)) InvalidRequest refl)
+never_sized : (head : HeadParts) (limit : ℕ) → Never (sized_framing head limit)
+unfolding sized_framing
+never_sized head limit =
+    never_then _ _ (never_some (announced (length_lines head)) InvalidRequest refl)
     (λ length. never_refuse (needs_length head && not (is_sent (codes "content-length") head)) MissingContentLength refl _
-    (never_refuse (nat_lt limit length) EntityTooLarge refl _ (never_ok length))))
+    (never_refuse (nat_lt limit length) EntityTooLarge refl _ (never_ok (Sized length))))
+
+never_coded : (head : HeadParts) (limit : ℕ) → Never (coded_framing head limit)
+unfolding coded_framing
+never_coded head limit =
+    never_refuse (not (may_be_coded head)) InvalidRequest refl _ (never_refuse (not (is_sent (codes "x-amz-decoded-content-length") head)) NotImplemented refl _
+    (never_then _ _ (never_some (decoded_length head) InvalidRequest refl)
+    (λ decoded. never_refuse (nat_lt limit decoded) EntityTooLarge refl _ (never_ok (Coded limit decoded)))))
+
+never_with_coding : (dialect : Dialect) (head : HeadParts) (limit : ℕ) → Never (framing_with_coding dialect head limit)
+never_with_coding Json head limit = never_err NotImplemented refl
+never_with_coding S3 head limit = never_coded head limit
+
+never_if : {A : Type 0} (test : Bool) (one other : Result A Code) → Never one → Never other → Never (if test then one else other)
+never_if true one other first second = first
+never_if false one other first second = second
+
+never_framed : (dialect : Dialect) (head : HeadParts) (limit : ℕ) → Never (framing_of dialect head limit)
+unfolding framing_of
+never_framed dialect head limit =
+    never_if (is_sent (codes "transfer-encoding") head) (framing_with_coding dialect head limit) (sized_framing head limit)
+    (never_with_coding dialect head limit) (never_sized head limit)
 
 never_addressed : (target : List ℕ) → Never (target_of target)
 unfolding target_of
@@ -150,7 +174,7 @@ never_checked settings head moment = never_then _ _ (never_addressed head.target
 
 never_early : (settings : Settings) (head : HeadParts) (moment : ℕ) → Never (early_admission settings head moment)
 unfolding early_admission
-never_early settings head moment = never_then _ _ (never_framed head settings.body_limit) (λ size. never_checked settings head moment)
+never_early settings head moment = never_then _ _ (never_framed settings.dialect head settings.body_limit) (λ framing. never_checked settings head moment)
 
 -- ---- where memory lacks
 
@@ -165,16 +189,16 @@ refused_at (Ok value) next code is = inr (value, refl, is)
 refused_at (Err other) next code is = let same : other ≡ code = cc in inl (ap Err same)
 
 early_by : (settings : Settings) (head : HeadParts) (moment : ℕ) (code : Code)
-    → (framing_of head settings.body_limit ≡ Err code) ⊎ ((size : ℕ) × (framing_of head settings.body_limit ≡ Ok size) × (checked_head settings head moment ≡ Err code))
+    → (framing_of settings.dialect head settings.body_limit ≡ Err code) ⊎ ((framing : BodyFraming) × (framing_of settings.dialect head settings.body_limit ≡ Ok framing) × (checked_head settings head moment ≡ Err code))
     → admission_of settings head moment ≡ Err code
 unfolding admission_of head_verdict
 early_by settings head moment code (inl framed) = rw framed refl
-early_by settings head moment code (inr (size, framed, checked)) = rw (framed, checked) refl
+early_by settings head moment code (inr (framing, framed, checked)) = rw (framed, checked) refl
 
 early_first : (settings : Settings) (head : HeadParts) (moment : ℕ) (code : Code) → early_admission settings head moment ≡ Err code
     → admission_of settings head moment ≡ Err code
 unfolding early_admission
-early_first settings head moment code is = early_by settings head moment code (refused_at (framing_of head settings.body_limit) _ code is)
+early_first settings head moment code is = early_by settings head moment code (refused_at (framing_of settings.dialect head settings.body_limit) _ code is)
 
 -- memory lacks for a head only past that
 pub lacks_past : (settings : Settings) (head : HeadParts) (moment : ℕ)

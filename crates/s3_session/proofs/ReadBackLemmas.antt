@@ -37,13 +37,14 @@ use Rattle.s3_machine.specs.Rules.{rules_of}
 use Rattle.s3_machine.specs.declared.rules.Rules.{Rules}
 use Rattle.s3_replies.specs.Lines.{metadata_line}
 use Rattle.s3_replies.specs.Laws.{AreUnbroken, Carries, IsUnbroken, PartsAreCarried, is_unbroken, is_whole_line, tells_success, SuccessIsShown, ObjectsAreCarried, TagsAreUnbroken}
-use Rattle.s3_payloads.specs.Laws.{WholePayloadsAreBodies}
+use Rattle.s3_framed_bodies.specs.Framed.{IsDataOf}
+use Rattle.s3_framed_bodies.specs.Laws.{WholePayloadsAreData}
 use Rattle.s3_session.specs.Output.{Exchange, IsReplied}
 use Rattle.s3_session.specs.Laws.{SoundMessages}
 use Rattle.s3_session.specs.ReadBack.{entry_of, entries_from, AsksFor, Wrote, WroteCopy, WroteParts, CarriesParts, LeavesAlone, SparesId, EveryReplay, StoredIsReadBack, VersionsAreReadBack, OnlyStoredIsReadBack, Shows, OnlyStoredIsShown, PutsAreReadBack, PutVersionsAreReadBack, CopiesAreReadBack, CopyVersionsAreReadBack, CompletionsAreReadBack, CompletionVersionsAreReadBack, ArePayloads, PayloadsAreBrought, PayloadsAreSent}
 use Rattle.s3_session.proofs.ReplayLemmas.{replayed_legal, replayed_walk}
 use Rattle.s3_session.proofs.ServesLemmas.{all_of_two}
-use Rattle.s3_session.proofs.SoundLemmas.{admitted_length, admitted_route, one_count}
+use Rattle.s3_session.proofs.SoundLemmas.{admitted_route}
 use Rattle.s3_session.proofs.SentLemmas.{all_put}
 use Rattle.s3_session.proofs.UnbrokenLemmas.{BringsUnbroken, made_of, read_brings, walked_unbroken}
 
@@ -497,18 +498,16 @@ came_sent plan sum came taken command bodiless made is =
 
 payloads : (bytes_of : Command → Option (List ℕ))
     → ((settings : Settings) (head : HeadParts) (ready : Command) → route_of settings head ≡ Ok (plans.Ready ready) → bytes_of ready ≡ None)
-    → CameAs bytes_of → WholePayloadsAreBodies → ArePayloads bytes_of
+    → CameAs bytes_of → WholePayloadsAreData → ArePayloads bytes_of
 payloads bytes_of bodiless came law settings moment bytes rest context command taken sound is =
     let routed = admitted_route settings sound.head moment sound.asks sound.admitted in
     let same = came sound.asks.plan _ sound.payload taken command (λ ready ready_is. bodiless settings sound.head ready (routed ∙ ap Ok ready_is)) sound.asked is in
-    let told = admitted_length settings sound.head moment sound.asks sound.admitted in
-    let size = one_count _ _ (sym sound.message.whole ∙ told) in
-    (same, λ whole. same ∙ law sound.asks.announced sound.body sound.payload false whole size sound.accepted)
+    (same, λ whole. subst (IsDataOf sound.asks.announced.framing sound.body) (sym same) (law sound.asks.announced sound.body sound.payload whole sound.message.whole sound.accepted))
 
-pub payloads_are_brought : ReadyPlansBringNothing → WholePayloadsAreBodies → PayloadsAreBrought
+pub payloads_are_brought : ReadyPlansBringNothing → WholePayloadsAreData → PayloadsAreBrought
 payloads_are_brought ready =
     payloads brings (λ settings head command routed. (ready settings head command routed).0) came_brought
 
-pub payloads_are_sent : ReadyPlansBringNothing → WholePayloadsAreBodies → PayloadsAreSent
+pub payloads_are_sent : ReadyPlansBringNothing → WholePayloadsAreData → PayloadsAreSent
 payloads_are_sent ready =
     payloads sent (λ settings head command routed. (ready settings head command routed).1) came_sent

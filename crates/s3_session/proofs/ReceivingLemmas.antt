@@ -13,7 +13,7 @@ use Rattle.s3_http_heads.specs.declared.find.Found.TheVariants as found
 use Rattle.s3_http_heads.specs.Head.{HeadParts, HasNoHead, Says, asks_head_only}
 use Rattle.s3_http_heads.specs.Search as search
 use Rattle.s3_http_heads.specs.declared.search.HeadSearch.{HeadSearch}
-use Rattle.s3_payloads.specs.Laws.{PayloadsStayWithin}
+use Rattle.s3_framed_bodies.specs.Laws.{ReadersStayWithin}
 use Rattle.s3_machine.specs.declared.command.Command.{Command}
 use Rattle.s3_replies.specs.declared.context.Context.{Context}
 use Rattle.s3_replies.specs.Replies.{PrintsRefusal, continue_line, internal_error}
@@ -178,7 +178,7 @@ module _ (settings : Settings) (moment : ℕ) (rest : List ℕ) where
   whole_front found = record { found = found; joined = sym (append-nil (skip_pairs rest)) }
 
   -- an admitted head leads to its body
-  admitted_incoming : PayloadsStayWithin → found_in rest ≡ found.Head (length (skip_pairs rest)) → (head : HeadParts) → Says (skip_pairs rest) head
+  admitted_incoming : ReadersStayWithin → found_in rest ≡ found.Head (length (skip_pairs rest)) → (head : HeadParts) → Says (skip_pairs rest) head
       → (incoming : Incoming) (rule : Result Asked Code) → admission_of settings head moment ≡ rule
       → IsRuled rule incoming.admission → incoming.context ≡ context_of settings.dialect head moment → IsIncoming settings incoming rest
   admitted_incoming within found head says incoming (Err code) is ruled context = absurd ruled
@@ -198,13 +198,13 @@ module _ (settings : Settings) (moment : ℕ) (rest : List ℕ) where
         plan = planned;
         stands = stands;
         taken = omega (arith, within incoming.admission.reader asked.announced [] false stands);
-        within = omega arith;
+        within = λ more. omega arith;
       }
 
   -- and its client is told to go on, or nothing is said
   admitted_invites : found_in rest ≡ found.Head (length (skip_pairs rest)) → (head : HeadParts) → Says (skip_pairs rest) head
       → (incoming : Incoming) (rule : Result Asked Code) → admission_of settings head moment ≡ rule → IsRuled rule incoming.admission
-      → (invited : Bool) → invited ≡ may_be_invited settings.dialect head incoming.admission.length
+      → (invited : Bool) → invited ≡ may_be_invited settings.dialect head incoming.admission.framing
       → Invites settings moment rest (if invited then continue_line else [])
   admitted_invites found head says incoming (Err code) is ruled invited may = absurd ruled
   admitted_invites found head says incoming (Ok asked) is ruled invited may =
@@ -284,7 +284,7 @@ module _ (settings : Settings) (moment : ℕ) (rest piece : List ℕ) (old new :
       }
 
   -- an admitted head, behind which the body is read
-  module _ (within : PayloadsStayWithin) (incoming : Incoming) (invited : Bool) (mid : Connection) (n : ℕ) (need : Need)
+  module _ (within : ReadersStayWithin) (incoming : Incoming) (invited : Bool) (mid : Connection) (n : ℕ) (need : Need)
       (said : unsent_of mid ≡ unsent_of old ++ (if invited then continue_line else [])) (longer : IsLonger (unsent_of mid) (unsent_of new))
       (fed : (last : List ℕ) → IsIncoming settings incoming rest → Invites settings incoming.context.moment rest last → IsFed settings mid new rest last piece n need) where
     text_admitted : TextOpens settings moment (skip_pairs rest) (opening.Admitted incoming invited) → IsFed settings old new rest [] piece n need

@@ -9,8 +9,8 @@ use Rattle.s3_http_heads.specs.declared.find.Found.{Found}
 use Rattle.s3_http_heads.specs.declared.find.Found.TheVariants as found
 use Rattle.s3_http_heads.specs.Search as search
 use Rattle.s3_aws_chunked.specs.Verdict as bodies
-use Rattle.s3_payloads.specs.Laws.{PayloadsJudge}
-use Rattle.s3_payloads.specs.Verdict as payloads
+use Rattle.s3_framed_bodies.specs.Laws.{ReadersJudge}
+use Rattle.s3_framed_bodies.specs.Verdict as framed
 use Rattle.s3_machine.specs.declared.command.Answer.{Answer}
 use Rattle.s3_replies.specs.declared.context.Context.{Context}
 use Rattle.s3_replies.specs.Replies.{Prints, internal_error}
@@ -48,7 +48,7 @@ nothing_found settings moment ended rest last is nothing = (
   subst (λ (f : Found). FoundInvites settings moment rest f last) (sym is) nothing,
 )
 
-module _ (judge : PayloadsJudge) (settings : Settings) (session : Connection) (ended : Bool) (waiting : List Turn) (last : List ℕ) where
+module _ (judge : ReadersJudge) (settings : Settings) (session : Connection) (ended : Bool) (waiting : List Turn) (last : List ℕ) where
   here_behind : (stage : Stage) (rest : List ℕ) → StandsAt stage settings session ended rest waiting last
       → Behind (standing_at stage) settings ended (Some rest) (moment_at stage) waiting last
   here_behind stages.Reading rest h =
@@ -57,7 +57,7 @@ module _ (judge : PayloadsJudge) (settings : Settings) (session : Connection) (e
   here_behind (stages.Body incoming) rest h =
       let b = h.body.begun in
       let moment = incoming.context.moment in
-      let undecided = subst (λ (v : bodies.Verdict). payloads.Judges b.asked.announced b.behind false v) h.body.undecided (judge incoming.admission.reader b.asked.announced b.behind false b.stands) in
+      let undecided = subst (λ (v : bodies.Verdict). framed.Judges b.asked.announced b.behind false v) h.body.undecided (judge incoming.admission.reader b.asked.announced b.behind false b.stands) in
       let judged = body_judged settings moment false rest b.text b.behind b.head (record { found = b.found; joined = b.joined }) b.says b.asked b.admitted (bodies.Open h.body.held) undecided in
       record {
         moment = moment;
@@ -77,7 +77,7 @@ module _ (judge : PayloadsJudge) (settings : Settings) (session : Connection) (e
   stands_behind (Some rest) h = here_behind session.stage rest h
   stands_behind None (closed, none, nothing) = rw closed (refl, none, nothing)
 
-pub sessions_write : PayloadsJudge → SessionsWrite
+pub sessions_write : ReadersJudge → SessionsWrite
 sessions_write judge session settings past sent h = record {
   left = h.left;
   late = moment_at session.stage;

@@ -16,9 +16,10 @@ use Rattle.s3_requests.specs.Commands.{command_of}
 use Rattle.s3_session.specs.Verdict as verdicts
 use Rattle.s3_aws_chunked.specs.Verdict as bodies
 use Rattle.s3_aws_chunked.specs.Finality.{IsDecided}
-use Rattle.s3_payloads.specs.Verdict as payloads
-use Rattle.s3_payloads.specs.Laws.{AcceptedAreWhole}
-use Rattle.s3_payloads.specs.Laws.{VerdictsStay as BodiesStay}
+use Rattle.s3_framed_bodies.specs.Framed.{size_in}
+use Rattle.s3_framed_bodies.specs.Verdict as framed
+use Rattle.s3_framed_bodies.specs.Laws.{AcceptedAreWhole}
+use Rattle.s3_framed_bodies.specs.Laws.{VerdictsStay as BodiesStay}
 use Rattle.s3_session.specs.Admission.{Asked, admission_of}
 use Rattle.s3_session.specs.Decision.{Decision, Judges, AskedJudged, FoundJudged, TextJudged, open_yet, refused_message, commanded, concluded, text_at, behind_text}
 use Rattle.s3_session.specs.Laws.{rest_with, VerdictsStay}
@@ -44,13 +45,15 @@ commanded_stays dialect head moment sum behind more (Err code) = refl
 
 -- what a body was accepted with stands in front of what follows
 concluded_stays : AcceptedAreWhole → (dialect : Dialect) (head : HeadParts) (moment : ℕ) (bytes more : List ℕ) (asked : Asked) (verdict : bodies.Verdict)
-    → payloads.Judges asked.announced bytes false verdict → (concluded dialect head moment asked bytes verdict).0 ≢ verdicts.Open
+    → framed.Judges asked.announced bytes false verdict → (concluded dialect head moment asked bytes verdict).0 ≢ verdicts.Open
     → IsDecided verdict × (with_more more (concluded dialect head moment asked bytes verdict) ≡ concluded dialect head moment asked (bytes ++ more) verdict)
 concluded_stays whole dialect head moment bytes more asked (bodies.Open held) judged decided = absurd (decided refl)
 concluded_stays whole dialect head moment bytes more asked (bodies.Refused place code) judged decided = (tt, refl)
 concluded_stays whole dialect head moment bytes more asked (bodies.Accepted payload) judged decided =
-    let size = asked.announced.length in
-    let back : drop size (bytes ++ more) ≡ drop size bytes ++ more = drop-append-le size bytes more (whole asked.announced bytes false payload judged).0 in
+    let size = size_in asked.announced.framing bytes in
+    let known = whole asked.announced bytes false payload judged in
+    let back : drop (size_in asked.announced.framing (bytes ++ more)) (bytes ++ more) ≡ drop size bytes ++ more =
+    ap (λ (n : ℕ). drop n (bytes ++ more)) (known.stays more) ∙ drop-append-le size bytes more known.come in
     let sum = found_sum asked.announced.form payload in
     let rule = command_of asked.plan sum payload in
     (tt, commanded_stays dialect head moment sum (drop size bytes) more rule ∙ ap (λ (behind : List ℕ). commanded dialect head moment sum behind rule) (sym back))

@@ -10,7 +10,7 @@ use Rattle.s3_terms.specs.declared.code.Code.{Code}
 use Rattle.s3_terms.specs.declared.dialect.Dialect.{Dialect}
 use Rattle.s3_aws_chunked.specs.Verdict as bodies
 use Rattle.s3_aws_chunked.specs.Finality.{DecidesAs}
-use Rattle.s3_payloads.specs.Laws.{VerdictsAreOne as OneBodyVerdict, VerdictsExist as BodiesHaveVerdicts}
+use Rattle.s3_framed_bodies.specs.Laws.{VerdictsAreOne as OneBodyVerdict, VerdictsExist as BodiesHaveVerdicts}
 use Rattle.s3_session.specs.Admission.{Asked, admission_of}
 use Rattle.s3_session.specs.Decision.{Decision, Judges, AskedJudged, FoundJudged, HeadJudged, TextJudged, open_yet, refused_message, concluded, text_at, behind_text}
 use Rattle.s3_session.specs.Laws.{OneVerdict, VerdictsExist}

@@ -8,14 +8,14 @@ use Rattle.s3_terms.specs.declared.code.Code.TheVariants.{InternalError}
 use Rattle.s3_http_heads.specs.Head.{HeadParts}
 use Rattle.s3_http_heads.specs.BodyLength.{framing_of}
 use Rattle.s3_signing.specs.Verdict.{Checked, checked_head}
-use Rattle.s3_payloads.specs.Reader.{Stands}
+use Rattle.s3_framed_bodies.specs.Reader.{Stands}
 use Rattle.s3_session.specs.declared.admission.Admission.{Admission}
 use Rattle.s3_session.specs.Admission.{Asked}
 
 -- what is judged of a head without memory: its framing, and what shows before its signature
 unfoldable pub early_admission : Settings → HeadParts → ℕ → Result Checked Code
 early_admission settings head moment = do
-  size ← framing_of head settings.body_limit
+  framing ← framing_of settings.dialect head settings.body_limit
   checked_head settings head moment
 
 -- this is what the head asks for: the reader stands before all bytes of its body
@@ -23,7 +23,7 @@ abbrev pub IsAsked : Asked → Admission → Type 0
 IsAsked asked admission =
     Stands admission.reader asked.announced [] false
     × (admission.plan ≡ asked.plan)
-    × (admission.length ≡ asked.announced.length)
+    × (admission.framing ≡ asked.announced.framing)
 
 -- what a rule says that refuses nothing
 abbrev pub IsRuled : Result Asked Code → Admission → Type 0

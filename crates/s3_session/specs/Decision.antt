@@ -12,7 +12,8 @@ use Rattle.s3_http_heads.specs.Head.{HeadParts, Says, HasNoHead, closes, asks_he
 use Rattle.s3_aws_chunked.specs.Verdict as bodies
 use Rattle.s3_integrity.specs.declared.checksum.Checksum.{Checksum}
 use Rattle.s3_payloads.specs.FoundSum.{found_sum}
-use Rattle.s3_payloads.specs.Verdict as payloads
+use Rattle.s3_framed_bodies.specs.Framed.{size_in}
+use Rattle.s3_framed_bodies.specs.Verdict as framed
 use Rattle.s3_machine.specs.declared.command.Command.{Command}
 use Rattle.s3_requests.specs.ChecksumMode.{asks_for_checksums}
 use Rattle.s3_requests.specs.Commands.{command_of}
@@ -59,14 +60,14 @@ abbrev pub concluded : Dialect → HeadParts → ℕ → Asked → List ℕ → 
 concluded dialect head moment asked bytes (bodies.Open held) = open_yet
 concluded dialect head moment asked bytes (bodies.Accepted payload) =
     let sum = found_sum asked.announced.form payload in
-    commanded dialect head moment sum (drop asked.announced.length bytes) (command_of asked.plan sum payload)
+    commanded dialect head moment sum (drop (size_in asked.announced.framing bytes) bytes) (command_of asked.plan sum payload)
 concluded dialect head moment asked bytes (bodies.Refused place code) = refused_message code (asks_head_only head)
 
 -- the verdict by what the head asks for and the bytes behind it, or by the first fault of the head
 abbrev pub AskedJudged : Dialect → HeadParts → ℕ → Bool → List ℕ → Result Asked Code → Decision → Type 0
 AskedJudged dialect head moment ended bytes (Err code) decision = decision ≡ refused_message code (asks_head_only head)
 AskedJudged dialect head moment ended bytes (Ok asked) decision =
-    (verdict : bodies.Verdict) × payloads.Judges asked.announced bytes ended verdict × (decision ≡ concluded dialect head moment asked bytes verdict)
+    (verdict : bodies.Verdict) × framed.Judges asked.announced bytes ended verdict × (decision ≡ concluded dialect head moment asked bytes verdict)
 
 -- the verdict on a message whose head has been read, by the bytes that follow the head
 abbrev pub HeadJudged : Settings → ℕ → Bool → HeadParts → List ℕ → Decision → Type 0
@@ -108,4 +109,4 @@ pub record AwaitsBody (settings : Settings) (moment : ℕ) (ended : Bool) (bytes
   pub asked : Asked
   pub admitted : admission_of settings head moment ≡ Ok asked
   pub held : List ℕ
-  pub undecided : payloads.Judges asked.announced (behind_text size bytes) ended (bodies.Open held)
+  pub undecided : framed.Judges asked.announced (behind_text size bytes) ended (bodies.Open held)

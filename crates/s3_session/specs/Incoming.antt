@@ -11,7 +11,8 @@ use Rattle.s3_http_heads.specs.Head.{HeadParts, Says, HasNoHead, asks_head_only}
 use Rattle.s3_aws_chunked.specs.Verdict as bodies
 use Rattle.s3_integrity.specs.declared.checksum.Checksum.{Checksum}
 use Rattle.s3_payloads.specs.FoundSum.{found_sum}
-use Rattle.s3_payloads.specs.Reader as payloads
+use Rattle.s3_framed_bodies.specs.Framed.{size_in}
+use Rattle.s3_framed_bodies.specs.Reader as framed
 use Rattle.s3_payloads.specs.declared.form.Form.{Form}
 use Rattle.s3_machine.specs.declared.command.Command.{Command}
 use Rattle.s3_requests.specs.declared.routing.Plan.{Plan}
@@ -35,7 +36,7 @@ abbrev pub HeadOpens : Dialect → HeadParts → ℕ → Result Checked Code →
 HeadOpens dialect head moment early rule (opening.Admitted incoming invited) =
     IsRuled rule incoming.admission
     × (incoming.context ≡ context_of dialect head moment)
-    × (invited ≡ may_be_invited dialect head incoming.admission.length)
+    × (invited ≡ may_be_invited dialect head incoming.admission.framing)
 HeadOpens dialect head moment early rule (opening.Refused code head_only) = (rule ≡ Err code) × (head_only ≡ asks_head_only head)
 HeadOpens dialect head moment early rule opening.Died = IsOk early
 
@@ -65,15 +66,15 @@ pub record IsIncoming (settings : Settings) (incoming : Incoming) (rest : List �
   pub admitted : admission_of settings head incoming.context.moment ≡ Ok asked
   pub context : incoming.context ≡ context_of settings.dialect head incoming.context.moment
   pub plan : incoming.admission.plan ≡ asked.plan
-  pub stands : payloads.Stands incoming.admission.reader asked.announced behind false
-  pub taken : payloads.taken_of incoming.admission.reader ≡ length behind
-  pub within : length behind ≤ asked.announced.length
+  pub stands : framed.Stands incoming.admission.reader asked.announced behind false
+  pub taken : framed.taken_of incoming.admission.reader ≡ length behind
+  pub within : (more : List ℕ) → length behind ≤ size_in asked.announced.framing (behind ++ more)
 
 -- and nothing is decided about it yet
 pub record IsInBody (settings : Settings) (incoming : Incoming) (rest : List ℕ) : Type 0 where
   pub begun : IsIncoming settings incoming rest
   pub held : List ℕ
-  pub undecided : payloads.verdict_of incoming.admission.reader ≡ bodies.Open held
+  pub undecided : framed.verdict_of incoming.admission.reader ≡ bodies.Open held
 
 -- what became of it with these bytes, where its reply takes this from it
 abbrev pub Progresses : Settings → Context → List ℕ → Progress → Type 0

@@ -1,15 +1,19 @@
 -- What a verdict on a connection's bytes says of them (RFC 9112, sections 2.1 and 6.2), and that the
 -- bytes fix what is written.
-use Rattle.std.specs.Prelude.{◌≡◌, ◌≢◌, ℕ, Bool, true, false, List, [], ◌++◌, Some, Ok}
+use Rattle.std.specs.Prelude.{◌≡◌, ◌≢◌, ℕ, Bool, true, false, List, [], ◌++◌, codes, Some, Ok}
 use mathlib.Core.List.{IsPrefix}
 use Rattle.s3_config.specs.Settings.{Settings}
 use Rattle.s3_http_heads.specs.Find.{found_in}
 use Rattle.s3_http_heads.specs.declared.find.Found.TheVariants as found
-use Rattle.s3_http_heads.specs.Head.{HeadParts}
-use Rattle.s3_http_heads.specs.Message.{IsMessage}
+use Rattle.s3_http_heads.specs.Head.{HeadParts, is_sent}
+use Rattle.s3_http_heads.specs.BodyLength.{decoded_length, may_be_coded}
+use Rattle.s3_http_heads.specs.Message.{HasLength, IsMessageBy}
+use Rattle.s3_http_heads.specs.declared.body_length.BodyFraming.{BodyFraming}
+use Rattle.s3_http_heads.specs.declared.body_length.BodyFraming.TheVariants.{Sized, Coded}
 use Rattle.s3_aws_chunked.specs.Verdict.{Accepted}
 use Rattle.s3_payloads.specs.FoundSum.{found_sum}
-use Rattle.s3_payloads.specs.Verdict as payloads
+use Rattle.s3_framed_bodies.specs.Framed.{Ends}
+use Rattle.s3_framed_bodies.specs.Verdict as framed
 use Rattle.s3_machine.specs.declared.command.Command.{Command}
 use Rattle.s3_requests.specs.Commands.{command_of}
 use Rattle.s3_replies.specs.declared.context.Context.{Context}
@@ -63,19 +67,32 @@ InvitationsStay =
     → found_in bytes ≢ found.NeedMore
     → Invites settings moment bytes text → Invites settings moment (bytes ++ more) text
 
--- at the front of the bytes stands a whole message, and then the rest: its head asks for this, its body is accepted
--- with this payload, the context is what the head says of the reply and the checksum that was found of the payload, and the
--- operation makes this command of both
+-- at the front of the bytes stands a whole message, and then the rest: its head asks for this, its body ends where its framing
+-- says, and is accepted with this payload, the context is what the head says of the reply and the checksum that was found of
+-- the payload, and the operation makes this command of both
 pub record IsSound (settings : Settings) (moment : ℕ) (bytes : List ℕ) (context : Context) (command : Command) (rest : List ℕ) : Type 0 where
   pub head : HeadParts
   pub body : List ℕ
   pub asks : Asked
   pub payload : List ℕ
-  pub message : IsMessage bytes head body rest
+  pub message : IsMessageBy (Ends asks.announced.framing) bytes head body rest
   pub admitted : admission_of settings head moment ≡ Ok asks
-  pub accepted : payloads.Judges asks.announced body false (Accepted payload)
+  pub accepted : framed.Judges asks.announced body false (Accepted payload)
   pub replied : context ≡ with_found (found_sum asks.announced.form payload) (context_of settings.dialect head moment)
   pub asked : command_of asks.plan (found_sum asks.announced.form payload) payload ≡ Ok command
+
+-- what a head tells of where this body ends, where a server takes so many bytes: no transfer coding is named, and it has as many
+-- bytes as Content-Length announces; or the chunked coding alone is named, with the object's length
+abbrev pub TellsEnd : HeadParts → ℕ → BodyFraming → List ℕ → Type 0
+TellsEnd head limit (Sized size) body = (is_sent (codes "transfer-encoding") head ≡ false) × HasLength head body
+TellsEnd head limit (Coded most decoded) body = (may_be_coded head ≡ true) × (decoded_length head ≡ Some decoded) × (most ≡ limit)
+
+-- the body of a sound message ends where its head tells
+abbrev pub EndsAreTold : Type 0
+EndsAreTold =
+    (settings : Settings) (moment : ℕ) (bytes rest : List ℕ) (context : Context) (command : Command)
+    → (sound : IsSound settings moment bytes context command rest)
+    → TellsEnd sound.head settings.body_limit sound.asks.announced.framing sound.body
 
 -- a sound verdict is about a sound message at the front of the bytes
 abbrev pub SoundMessages : Type 0

@@ -20,6 +20,8 @@ pub use Rattle.s3_http_heads.specs.BodyLength
 pub use Rattle.s3_signing.specs.Verdict as Signing
 pub use Rattle.s3_payloads.specs.Form
 pub use Rattle.s3_payloads.specs.Verdict as Payloads
+pub use Rattle.s3_framed_bodies.specs.Framed
+pub use Rattle.s3_framed_bodies.specs.Verdict as Bodies
 pub use Rattle.s3_requests.specs.Commands
 pub use Rattle.s3_requests.specs.Routing
 pub use Rattle.s3_machine.specs.Step

@@ -5,6 +5,7 @@ use Rattle.std.specs.List.{AllByRecursion, AllZip, concat}
 use Rattle.s3_config.specs.Settings.{Settings}
 use Rattle.s3_names.specs.declared.ids.VersionId.{VersionId}
 use Rattle.s3_payloads.specs.Form.{IsSentAsItIs}
+use Rattle.s3_framed_bodies.specs.Framed.{IsDataOf}
 use Rattle.s3_bodies.specs.Payload.{tag_of}
 use Rattle.s3_versions.specs.declared.version.Data.{Data}
 use Rattle.s3_uploads.specs.Parts.{part_tag}
@@ -247,14 +248,14 @@ module _ (settings : Settings) (exchanges : List Exchange) where
       → AsksFor (whole upload.address (Some id)) read
       → CarriesParts settings before upload listed read.reply
 
--- The bytes that commands have so are the payloads of the bodies of their messages, which are the bodies where these are sent
--- as they are.
+-- The bytes that commands have so are the payloads of the bodies of their messages, which are the data of the bodies where these are
+-- sent as they are.
 abbrev pub ArePayloads : (Command → Option (List ℕ)) → Type 0
 ArePayloads bytes_of =
     (settings : Settings) (moment : ℕ) (bytes rest : List ℕ) (context : Context) (command : Command) (taken : List ℕ)
     → (sound : IsSound settings moment bytes context command rest)
     → bytes_of command ≡ Some taken
-    → (taken ≡ sound.payload) × (IsSentAsItIs sound.asks.announced.form → taken ≡ sound.body)
+    → (taken ≡ sound.payload) × (IsSentAsItIs sound.asks.announced.form → IsDataOf sound.asks.announced.framing sound.body taken)
 
 -- those that a put brings,
 abbrev pub PayloadsAreBrought : Type 0

@@ -21,7 +21,7 @@ use Rattle.s3_session.specs.declared.session.Stage.TheVariants as stages
 
 -- nothing refuses a head up to its signature, which verifies at a moment: its framing is judged first
 abbrev pub IsSigned : Settings → HeadParts → ℕ → Type 0
-IsSigned settings head moment = IsOk (framing_of head settings.body_limit) × IsOk (head_verdict settings head moment)
+IsSigned settings head moment = IsOk (framing_of settings.dialect head settings.body_limit) × IsOk (head_verdict settings head moment)
 
 -- where a rule refuses a head, its routing takes memory
 abbrev pub RefusedTakes : Settings → HeadParts → ℕ → Type 0

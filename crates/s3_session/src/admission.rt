@@ -9,8 +9,8 @@ ghost use Rattle.s3_session.specs.Verified.{IsSigned};
 use crate::signer::HeadSigner;
 use s3_calendar::Moment;
 use s3_config::Config;
-use s3_http_heads::{Head, framing};
-use s3_payloads::PayloadReader;
+use s3_framed_bodies::BodyReader;
+use s3_http_heads::{BodyFraming, Head, framing};
 use s3_requests::{Plan, route};
 use s3_signing::verify_head;
 use s3_terms::Code;
@@ -19,10 +19,10 @@ use std::alloc::Global;
 /// What a head that nothing refuses asks for.
 #[derive(Drop)]
 pub struct Admission {
-    /// How many bytes its body has as it is sent.
-    pub length: u64,
+    /// How the end of its body is told.
+    pub framing: BodyFraming,
     /// The reader of its body, of which nothing has come.
-    pub reader: PayloadReader,
+    pub reader: BodyReader,
     /// The operation.
     pub plan: Plan,
 }
@@ -33,7 +33,7 @@ pub struct Admission {
 /// The error is the first fault. `InternalError` says that memory ran out; then nothing that shows before the signature
 /// refuses the head. `signer` is told whether the head was verified, also where the head is refused after that, and keeps
 /// what `verify_head` does. From the signature on, memory runs out only where `route` takes it.
-#[tactic(auto, unfolding(crate::specs::Admission::admission_of, crate::specs::Admitting::early_admission, s3_signing::specs::Verdict::head_verdict), using(crate::proofs::SoundLemmas::announced_size))]
+#[tactic(auto, unfolding(crate::specs::Admission::admission_of, crate::specs::Admitting::early_admission, s3_signing::specs::Verdict::head_verdict), using(crate::proofs::SoundLemmas::announced_framing))]
 pub fn admit(
     alloc: Global,
     config: &Config,
@@ -53,13 +53,13 @@ pub fn admit(
     ensures routed { signer.old.is_verified ≡ false → signer.new.is_verified ≡ true
         → IfErr result (λ code. ((code ≡ Code.InternalError) × RouteTakes config.now.dialect head.now) ⊎ (admission_of config.now head.now moment ≡ Err code)) }
 {
-    let length = framing(head, config.body_limit())?;
+    let framing = framing(config.dialect(), head, config.body_limit())?;
     let verified = verify_head(alloc, config, head, moment, &mut signer.key)?;
     signer.is_verified = true;
-    let reader = PayloadReader::new(alloc, config, head, length, verified)?;
+    let reader = BodyReader::new(alloc, config, head, framing, verified)?;
     let plan = route(alloc, config, head)?;
     Ok(Admission {
-        length,
+        framing,
         reader,
         plan,
     })

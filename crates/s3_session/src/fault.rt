@@ -11,7 +11,7 @@ ghost use Rattle.s3_session.specs.Stands.{Stands};
 
 use crate::laws::{invitations_are_final, verdicts_are_one, verdicts_stay};
 use crate::session::{Closing, Session, Stage};
-use s3_payloads::payloads_are_judged;
+use s3_framed_bodies::bodies_are_judged;
 use s3_terms::Code;
 
 /// The first message of a connection that is refused. None after it is read.
@@ -53,7 +53,7 @@ impl Session {
         verdicts_stay();
         invitations_are_final();
         s3_http_heads::verdicts_stay();
-        payloads_are_judged();
+        bodies_are_judged();
         Some(Fault {
             message: self.answered,
             code: refused_code(&self.stage)?,

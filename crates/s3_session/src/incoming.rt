@@ -2,19 +2,19 @@
 
 ghost use Rattle.std.specs.Prelude.{◌≡◌, ◌≢◌, ◌⊎◌, ◌<◌, ◌≤◌, ◌-◌, ℕ, Bool, true, false, List, ◌++◌, length, take, IfOk};
 ghost use Rattle.s3_config.specs.Settings.{Settings};
-ghost use Rattle.s3_payloads.specs.Form.{Announced};
-ghost use Rattle.s3_payloads.specs.Reader.{Stands, taken_of, verdict_of};
+ghost use Rattle.s3_framed_bodies.specs.Framed.{FramedBody};
+ghost use Rattle.s3_framed_bodies.specs.Reader.{Stands, taken_of, verdict_of};
 ghost use Rattle.s3_session.specs.Decision.{Judges, open_yet};
 ghost use Rattle.s3_session.specs.Incoming as rules;
 
 use crate::admission::Admission;
 use s3_bodies::Payload;
-use s3_integrity::Checksum;
-use s3_machine::Command;
-use s3_payloads::{
-    accepted_bodies_are_whole, open_bodies_are_short, payloads_are_judged, refusals_stand,
+use s3_framed_bodies::{
+    accepted_bodies_are_whole, bodies_are_judged, open_bodies_are_short, refusals_stand,
     verdicts_are_final,
 };
+use s3_integrity::Checksum;
+use s3_machine::Command;
 use s3_replies::Context;
 use s3_requests::{Plan, command};
 use s3_terms::{Code, NoMemory};
@@ -85,7 +85,7 @@ impl Receiving {
             → Judges settings self.context.moment false (rest ++ take n piece.now) open_yet }
         ensures kept { rules.context_in self.context result.1 ≡ self.context }
     {
-        payloads_are_judged();
+        bodies_are_judged();
         open_bodies_are_short();
         refusals_stand();
         accepted_bodies_are_whole();
@@ -114,7 +114,7 @@ impl Receiving {
     pub(crate) fn end(mut self) -> Result<(), Code>
         ensures { (settings : Settings) (rest : List ℕ) → rules.IsInBody settings self rest → rules.IsCut settings self.context rest result }
     {
-        payloads_are_judged();
+        bodies_are_judged();
         open_bodies_are_short();
         let ended = self.incoming.admission.reader.end();
         drop(self);
@@ -123,7 +123,7 @@ impl Receiving {
 
     // What became of it with the bytes so far, where nothing refuses them.
     fn settled(self, alloc: Global) -> Progress
-        ensures settles { (announced : Announced) (bytes : List ℕ) (ended : Bool)
+        ensures settles { (announced : FramedBody) (bytes : List ℕ) (ended : Bool)
             → Stands self.admission.reader announced bytes ended
             → rules.Settles announced.form self (verdict_of self.admission.reader) result }
         ensures kept { rules.context_in self.context result ≡ self.context }

@@ -3,15 +3,15 @@
 ghost use Rattle.s3_session.specs.ReadBack.{EveryReplay, StoredIsReadBack, VersionsAreReadBack, OnlyStoredIsReadBack, OnlyStoredIsShown, PutsAreReadBack, PutVersionsAreReadBack, CopiesAreReadBack, CopyVersionsAreReadBack, CompletionsAreReadBack, CompletionVersionsAreReadBack, PayloadsAreBrought, PayloadsAreSent};
 ghost use Rattle.s3_session.specs.Fault.{FaultsEnd, FaultsStay, OneFault, RefusedIsNothing};
 ghost use Rattle.s3_session.specs.PrintedFault.{FaultsArePrinted, PrintedAreFaults, TwoEnds};
-ghost use Rattle.s3_session.specs.Laws.{HeadlessAreSilent, HeadsAreDecided, InvitationsStay, OneInvitation, OneOutput, OneVerdict, OneWriting, OutputsStay, VerdictsExist, VerdictsStay, SoundAlone, SoundMessages, SoundIsJudged, SoundWalksAlone};
+ghost use Rattle.s3_session.specs.Laws.{EndsAreTold, HeadlessAreSilent, HeadsAreDecided, InvitationsStay, OneInvitation, OneOutput, OneVerdict, OneWriting, OutputsStay, VerdictsExist, VerdictsStay, SoundAlone, SoundMessages, SoundIsJudged, SoundWalksAlone};
 ghost use Rattle.s3_session.specs.Stands.{SessionsWrite};
 
+use s3_framed_bodies::{accepted_bodies_are_whole, bodies_are_judged, verdicts_are_final};
 use s3_http_heads::{texts_say_one_thing, verdict_is_exact};
 use s3_machine::{
     completions_are_kept, copies_are_kept, histories_leave_sound_bases, only_stored_is_given,
     parts_have_a_source, puts_are_kept, stored_is_kept,
 };
-use s3_payloads::{accepted_bodies_are_whole, payloads_are_judged, verdicts_are_final};
 use s3_replies::{refusals_are_unique, replies_are_unique, replies_show_what_came};
 use s3_requests::{plans_are_unbroken, ready_plans_bring_nothing};
 
@@ -79,11 +79,12 @@ pub fn faults_are_printed()
 }
 
 /// A law: a sound verdict is about a whole message at the front of the bytes, whose head is admitted, whose body
-/// is accepted, and whose operation makes a command of it; and each such message has the sound verdict. There is
-/// nothing to run.
+/// is accepted, and whose operation makes a command of it; and each such message has the sound verdict. Its body ends where its
+/// head tells: by Content-Length, or by the chunked transfer coding. There is nothing to run.
 pub fn sound_verdicts_are_exact()
     ensures message { SoundMessages }
     ensures judged { SoundIsJudged }
+    ensures told { EndsAreTold }
 {
     verdict_is_exact();
     verdicts_are_final();
@@ -162,7 +163,7 @@ pub fn sessions_write()
     ensures { SessionsWrite }
 {
     verdicts_stay();
-    payloads_are_judged();
+    bodies_are_judged();
 }
 
 /// A law: in the output of a connection, the reply to a read carries the bytes that the last message stored which changed

@@ -5,7 +5,7 @@ ghost use Rattle.s3_session.specs.Admission.{admission_of};
 ghost use Rattle.s3_session.specs.Admitting.{early_admission};
 ghost use Rattle.s3_session.specs.Decision.{context_of};
 ghost use Rattle.s3_session.specs.Incoming as rules;
-ghost use Rattle.s3_session.specs.Invitation.{may_be_invited};
+ghost use Rattle.s3_session.specs.Invitation.{may_be_invited, may_have_bytes};
 ghost use Rattle.s3_session.specs.Verified.{IsSigned, RefusedTakes, TextTakes, VerifiesIn, is_refused, opens_body};
 
 use crate::admission::admit;
@@ -13,7 +13,7 @@ use crate::incoming::{Incoming, Receiving};
 use crate::signer::HeadSigner;
 use s3_calendar::Moment;
 use s3_config::Config;
-use s3_http_heads::{Head, texts_say_one_thing};
+use s3_http_heads::{BodyFraming, Head, texts_say_one_thing};
 use s3_replies::Context;
 use s3_requests::asks_for_checksums;
 use s3_terms::{Code, Dialect, NoMemory};
@@ -78,7 +78,7 @@ fn open_head(
 {
     match admit(alloc, config, head, moment, signer) {
         Ok(admission) => {
-            let invited = may_be_invited(config.dialect(), head, admission.length);
+            let invited = may_be_invited(config.dialect(), head, admission.framing);
             let context = context_of(config, head, moment);
             admitted(alloc, Incoming { admission, context }, invited)
         }
@@ -100,12 +100,22 @@ fn admitted(alloc: Global, incoming: Incoming, invited: bool) -> Opening
     }
 }
 
-// Whether the client waits to be told to send a body of so many bytes. Clients of S3 wait also before an empty one.
-fn may_be_invited(dialect: Dialect, head: &Head, length: u64) -> bool
-    ensures { result ≡ may_be_invited dialect head.now length }
+// Whether a body whose end is told so may have bytes.
+fn may_have_bytes(framing: BodyFraming) -> bool
+    ensures { result ≡ may_have_bytes framing }
+{
+    match framing {
+        BodyFraming::Sized(size) => size > 0,
+        BodyFraming::Coded { .. } => true,
+    }
+}
+
+// Whether the client waits to be told to send a body whose end is told so. Clients of S3 wait also before an empty one.
+fn may_be_invited(dialect: Dialect, head: &Head, framing: BodyFraming) -> bool
+    ensures { result ≡ may_be_invited dialect head.now framing }
 {
     match dialect {
-        Dialect::Json => head.expects_continue() && length > 0,
+        Dialect::Json => head.expects_continue() && may_have_bytes(framing),
         Dialect::S3 => head.expects_continue(),
     }
 }

@@ -20,10 +20,10 @@ use crate::reply::AnswerTo;
 use crate::signer::HeadSigner;
 use s3_calendar::Moment;
 use s3_config::Config;
+use s3_framed_bodies::bodies_are_judged;
 use s3_http_heads::{Found, HeadSearch, searches_find};
 use s3_machine::{Answer, Command, Turn};
 use s3_outbox::Outbox;
-use s3_payloads::payloads_are_judged;
 use s3_replies::{Context, continue_reply, internal_error_reply, refusal};
 use s3_terms::{Code, Dialect, NoMemory};
 use std::alloc::Global;
@@ -168,7 +168,8 @@ impl Session {
     /// their order. Where memory runs out, the reply that says so is written, and the connection ends with it. Within a
     /// head this comes once the head is whole. A head that is too large is refused all the same.
     ///
-    /// It takes time by the length of what it takes, and for each head that of `s3_signing::verify_head`. It takes
+    /// It takes time by the length of what it takes, and for each head that of `s3_signing::verify_head`; with the last
+    /// byte of a body in the transfer coding by the length of all its data, which is then in memory twice. It takes
     /// memory for the bytes of a head, and for the Continue line and the reply. Once the head is verified, it takes
     /// memory for what is known of the message, and for the data of its body as they come. What the command reads in
     /// these takes memory too.
@@ -292,7 +293,7 @@ impl Session {
         ensures count { self.new.answered ≡ self.old.answered }
     {
         searches_find();
-        payloads_are_judged();
+        bodies_are_judged();
         match open_text(alloc, config, self.search.text(), moment, &mut self.signer) {
             Opening::Admitted(incoming, invited) => match self.invite(invited) {
                 Ok(()) => self.read_body(alloc, incoming, piece),
@@ -562,7 +563,7 @@ impl Session {
         ensures only { (settings : Settings) (past : Past) (sent : List ℕ) → inside.Stands self.now settings past sent
             → is_dead (rules.standing_of self.now) ≡ false → ReadsBody settings past → result ≡ true }
     {
-        payloads_are_judged();
+        bodies_are_judged();
         sessions_write();
         inputs_fix_outputs();
         self.is_in_body()

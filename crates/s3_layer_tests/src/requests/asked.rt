@@ -4,7 +4,7 @@
 //! two rows: one text costs less to prove than a table. `{t*255}` stands for 255 times `t`.
 use crate::checks::Rows;
 use crate::requests::canonical::{add_hash, add_joined, add_query, add_uri};
-use crate::requests::heads::{add_length, has_parts};
+use crate::requests::heads::{add_framing, has_parts};
 use crate::requests::plans::add_plan;
 use crate::requests::targets::{add_parameters, add_target};
 use crate::texts::{add, add_code, add_number, add_text, is_same};
@@ -23,8 +23,10 @@ pub(crate) enum Question {
     Lines,
     /// Whether it has the parts of the head that `heads` prints.
     Parts,
-    /// The length of the body, where a body may have 100 bytes.
+    /// How the end of the body is told, where a body may have 100 bytes.
     Length,
+    /// The same where documents are XML.
+    LengthInXml,
     /// What the target says, a line each: the path, the bucket, the key, `?` where there is a query, and each parameter, as
     /// its name, a colon and its value.
     Target,
@@ -68,7 +70,8 @@ fn add_answer(alloc: Global, out: &mut Vec<u8>, head: &Head, question: &Question
         Question::Expects => add_whether(out, head.expects_continue()),
         Question::Lines => add_number(out, head.header_count() as u64),
         Question::Parts => add_whether(out, has_parts(head)),
-        Question::Length => add_length(out, head),
+        Question::Length => add_framing(out, Dialect::Json, head),
+        Question::LengthInXml => add_framing(out, Dialect::S3, head),
         Question::Target => add_target(out, head),
         Question::Parameters => add_parameters(out, head),
         Question::Uri => add_uri(alloc, out, head),

@@ -2,8 +2,9 @@
 use crate::checks::{self, Row, all_hold};
 use crate::requests::asked::{Question, Table};
 use crate::requests::texts::repeated;
-use crate::texts::{add_code, add_number, is_same};
-use s3_http_heads::{Found, Head, find_head, framing, skipped};
+use crate::texts::{add, add_code, add_number, is_same};
+use s3_http_heads::{BodyFraming, Found, Head, find_head, framing, skipped};
+use s3_terms::Dialect;
 use std::alloc::Global;
 
 // A number of letters, the bytes behind them, and what is found in both.
@@ -33,10 +34,23 @@ impl Row for Bytes {
     }
 }
 
-/// Adds the length of the head's body, where a body may have 100 bytes.
-pub(crate) fn add_length(out: &mut Vec<u8>, head: &Head) {
-    match framing(head, 100) {
-        Ok(length) => add_number(out, length),
+// Adds how the end of a body is told: its length, or how much data its head says, and how much is accepted.
+fn add_told(out: &mut Vec<u8>, told: BodyFraming) {
+    match told {
+        BodyFraming::Sized(length) => add_number(out, length),
+        BodyFraming::Coded { limit, decoded } => {
+            add(out, b"coded ");
+            add_number(out, decoded);
+            add(out, b" of ");
+            add_number(out, limit);
+        }
+    }
+}
+
+/// Adds how the end of the head's body is told in a dialect, where a body may have 100 bytes.
+pub(crate) fn add_framing(out: &mut Vec<u8>, dialect: Dialect, head: &Head) {
+    match framing(dialect, head, 100) {
+        Ok(told) => add_told(out, told),
         Err(code) => add_code(out, code),
     }
 }
@@ -113,6 +127,52 @@ const LENGTHS_OF_PUTS: Table = Table {
     end: "\r\n\r\n",
 };
 
+// In S3's dialect a body may be in the transfer coding.
+const CODINGS: Table = Table {
+    question: Question::LengthInXml,
+    front: "PUT /pail/k HTTP/1.",
+    rows: "\
+        1\r\nTransfer-Encoding: chunked\r\nx-amz-decoded-content-length: 5|coded 5 of 100^\
+        1\r\nx-amz-decoded-content-length: 0\r\ntransfer-ENCODING: \t ChunKED \t|coded 0 of 100^\
+        1\r\nTransfer-Encoding: chunked\r\nx-amz-decoded-content-length: 000000000000000100|coded 100 of 100^\
+        1\r\nTransfer-Encoding: chunked\r\nx-amz-decoded-content-length: 101|EntityTooLarge^\
+        1\r\nTransfer-Encoding: chunked\r\nx-amz-decoded-content-length: 999999999999999999|EntityTooLarge^\
+        1\r\nTransfer-Encoding: chunked|NotImplemented^\
+        1\r\nTransfer-Encoding: chunked\r\nx-amz-decoded-content-length: 5\r\nx-amz-decoded-content-length: 5|InvalidRequest^\
+        1\r\nTransfer-Encoding: chunked\r\nx-amz-decoded-content-length: 5x|InvalidRequest^\
+        1\r\nTransfer-Encoding: chunked\r\nx-amz-decoded-content-length:|InvalidRequest^\
+        1\r\nTransfer-Encoding: chunked\r\nx-amz-decoded-content-length: 0000000000000000005|InvalidRequest^\
+        1\r\nTransfer-Encoding: chunked\r\nContent-Length: 5\r\nx-amz-decoded-content-length: 5|InvalidRequest^\
+        1\r\nTransfer-Encoding: chunked\r\nContent-Length: 0|InvalidRequest^\
+        0\r\nTransfer-Encoding: chunked\r\nx-amz-decoded-content-length: 5|InvalidRequest^\
+        0\r\nTransfer-Encoding: chunked|InvalidRequest^\
+        1|MissingContentLength^\
+        1\r\nx-amz-decoded-content-length: 5|MissingContentLength^\
+        1\r\nContent-Length: 5|5^\
+        1\r\nContent-Length: 101|EntityTooLarge",
+    end: "\r\n\r\n",
+};
+
+// It is the only coding that a body may be in.
+const OTHER_CODINGS: Table = Table {
+    question: Question::LengthInXml,
+    front: "PUT /pail/k HTTP/1.1\r\nx-amz-decoded-content-length: 5\r\nTransfer-Encoding:",
+    rows: "\
+        chunked|coded 5 of 100^\
+        chunked\r\nTransfer-Encoding: chunked|InvalidRequest^\
+        |InvalidRequest^\
+        gzip|InvalidRequest^\
+        gzip, chunked|InvalidRequest^\
+        chunked, gzip|InvalidRequest^\
+        chunked, chunked|InvalidRequest^\
+        chunked,|InvalidRequest^\
+        chunked;a=b|InvalidRequest^\
+        \"chunked\"|InvalidRequest^\
+        identity|InvalidRequest^\
+        gzip\r\nTransfer-Encoding: chunked|InvalidRequest",
+    end: "\r\n\r\n",
+};
+
 const CONNECTIONS: Table = Table {
     question: Question::Closes,
     front: "GET / ",
@@ -143,11 +203,13 @@ const EXPECTATIONS: Table = Table {
     end: "\r\n\r\n",
 };
 
-static TABLES: [Table; 6] = [
+static TABLES: [Table; 8] = [
     LINES,
     PARTS,
     LENGTHS,
     LENGTHS_OF_PUTS,
+    CODINGS,
+    OTHER_CODINGS,
     CONNECTIONS,
     EXPECTATIONS,
 ];

@@ -7,11 +7,11 @@ ghost use Rattle.s3_http_heads.specs.Target.{is_unreadable};
 use crate::texts::{Told, add};
 use s3_calendar::{Moment, Stamp};
 use s3_config::Config;
+use s3_framed_bodies::BodyReader;
 use s3_http_heads::{Head, framing};
-use s3_payloads::PayloadReader;
 use s3_signing::{KeptKey, Verified, sign_head, verify_head};
-use s3_terms::Code;
-use s3_test_servers::{ID, SECRET, config};
+use s3_terms::{Code, Dialect};
+use s3_test_servers::{ID, SECRET, config, config_in};
 use std::alloc::Global;
 use std::mem::drop;
 
@@ -86,32 +86,37 @@ fn signed_head(alloc: Global, lines: &[u8]) -> Result<Head, Code> {
 }
 
 // The reader of the body behind this head, of the server with these settings.
-fn reader_of(
-    alloc: Global,
-    config: &Config,
-    head: &Head,
-    limit: u64,
-) -> Result<PayloadReader, Code> {
-    let size = framing(head, limit)?;
+fn reader_of(alloc: Global, config: &Config, head: &Head) -> Result<BodyReader, Code> {
+    let told = framing(config.dialect(), head, config.body_limit())?;
     match verdict_of(alloc, config, head, MOMENT) {
-        Ok(verified) => PayloadReader::new(alloc, config, head, size, verified),
+        Ok(verified) => BodyReader::new(alloc, config, head, told, verified),
         Err(code) => Err(code),
     }
 }
 
-// The reader of the body behind this head, of a server that takes bodies of at most so many bytes.
-fn reader_behind(alloc: Global, head: &Head, limit: u64) -> Result<PayloadReader, Code> {
-    match config(alloc, REGION, 5, limit, &[]) {
-        Some(config) => reader_of(alloc, &config, head, limit),
+// The reader of the body behind this head, of a server of this dialect that takes bodies of at most so many bytes.
+fn reader_behind(
+    alloc: Global,
+    dialect: Dialect,
+    head: &Head,
+    limit: u64,
+) -> Result<BodyReader, Code> {
+    match config_in(alloc, dialect, REGION, 5, limit, &[]) {
+        Some(config) => reader_of(alloc, &config, head),
         None => Err(Code::InternalError),
     }
 }
 
-/// The reader of the body behind the head of these lines, which is signed here, of a server that takes bodies
+/// The reader of the body behind the head of these lines, which is signed here, of a server of this dialect that takes bodies
 /// of at most `limit` bytes; or the head's refusal.
-pub(crate) fn reader(alloc: Global, lines: &[u8], limit: u64) -> Result<PayloadReader, Code> {
+pub(crate) fn reader(
+    alloc: Global,
+    dialect: Dialect,
+    lines: &[u8],
+    limit: u64,
+) -> Result<BodyReader, Code> {
     match signed_head(alloc, lines) {
-        Ok(head) => reader_behind(alloc, &head, limit),
+        Ok(head) => reader_behind(alloc, dialect, &head, limit),
         Err(code) => Err(code),
     }
 }

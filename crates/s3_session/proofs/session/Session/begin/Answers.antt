@@ -14,7 +14,7 @@ pub returns-in-Ok-clause-fed : goal.returns-in-Ok-clause-fed
 returns-in-Ok-clause-fed c rest held whole =
     let written = subst (λ (s : Connection). unsent_of c.invite.new.self ≡ unsent_of s ++ (if c.in-Admitted.invited then continue_line else [])) c.self.view_is c.in-Ok.ensures.written in
     begins_admitted c.args.config.now c.args.moment rest c.args.piece.now c.args.self.now _ held whole c.searches_find.ensures.head
-    c.payloads_are_judged.ensures.within c.in-Admitted.incoming c.in-Admitted.invited _ c.read_body.result.0 c.read_body.result.1
+    c.bodies_are_judged.ensures.within c.in-Admitted.incoming c.in-Admitted.invited _ c.read_body.result.0 c.read_body.result.1
     written c.read_body.ensures.longer (λ last h invites. c.read_body.ensures.fed c.args.config.now rest last h invites)
     c.text.result (c.text.ensures.text rest (subst (λ (s : Connection). Holds s.search rest) (sym c.self.view_is) held)) c.in-Admitted.ensures.opens
 

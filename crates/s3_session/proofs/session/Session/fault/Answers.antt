@@ -9,7 +9,7 @@ use Rattle.s3_session.proofs.session.Session.fault.Goals as goal
 pub returns-in_err-refused_code-clause-none : goal.returns-in_err-refused_code-clause-none
 returns-in_err-refused_code-clause-none c settings past sent more ended moments h lives unheard front all is =
     none_told settings c.args.self.now past sent h c.verdicts_are_one.ensures lives (ap (λ (s : Connection). refused_at s.stage) (sym c.self.view_is) ∙ sym c.refused_code.ensures ∙ c.in_err-refused_code.was) moments front all
-    c.payloads_are_judged.ensures.verdict c.verdicts_stay.ensures c.invitations_are_final.ensures.stay c.verdicts_stay-2.ensures.head more ended unheard
+    c.bodies_are_judged.ensures.verdict c.verdicts_stay.ensures c.invitations_are_final.ensures.stay c.verdicts_stay-2.ensures.head more ended unheard
 
 pub returns-clause-over : goal.returns-clause-over
 returns-clause-over c some =

@@ -4,7 +4,7 @@ use Rattle.s3_session.proofs.session.Session.in_body.Goals as goal
 
 pub returns-clause-reads : goal.returns-clause-reads
 returns-clause-reads c settings past sent h is =
-    reads_body settings c.args.self.now past sent h c.payloads_are_judged.ensures.verdict (sym c.is_in_body.ensures ∙ is)
+    reads_body settings c.args.self.now past sent h c.bodies_are_judged.ensures.verdict (sym c.is_in_body.ensures ∙ is)
 
 pub returns-clause-only : goal.returns-clause-only
 returns-clause-only c settings past sent h lives r =

@@ -1,0 +1,4 @@
+pub mod CodingLemmas
+pub mod LawLemmas
+pub mod DataLemmas
+pub mod CodedLemmas

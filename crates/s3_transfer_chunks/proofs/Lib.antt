@@ -1,0 +1,10 @@
+pub mod DigitLemmas
+pub mod SinkLemmas
+pub mod RunLemmas
+pub mod DecoderLemmas
+pub mod FinalLemmas
+pub mod StepLemmas
+pub mod WholeLemmas
+pub mod CourseLemmas
+pub mod AcceptLemmas
+pub mod HoldLemmas
