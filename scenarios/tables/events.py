@@ -15,7 +15,7 @@ MOST = 64
 
 def head_of(request):
     """The bytes of a request's head."""
-    return "\r\n".join([f"{request.method} {request.target} HTTP/1.1", *request.lines, "", ""]).encode()
+    return "\r\n".join([f"{request.method} {request.target} HTTP/{request.version}", *request.lines, "", ""]).encode()
 
 
 def bytes_of_reply(lines):

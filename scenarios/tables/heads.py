@@ -8,7 +8,8 @@ import time
 from signing import ALGORITHM, CHUNKED, UNSIGNED, canonical_request, signature, stamp_of
 
 from .chains import KEYS
-from .payloads import TRAILED_CHUNKS, UNSIGNED_CHUNKS
+from .codings import is_coded, judge_coding
+from .payloads import BODY_LIMIT, TRAILED_CHUNKS, UNSIGNED_CHUNKS
 from .requests import is_presigned, is_s3, refuse
 from .sums import CHECKSUM, KINDS, is_read, read
 
@@ -24,7 +25,7 @@ FORMS = {
     b"X-Amz-Signature": rb"[0-9a-f]{64}",
 }
 LONGEST, SKEW = 604_800, 900
-BODY_LIMIT, MD5_SIZE = 67_108_864, 16
+MD5_SIZE = 16
 
 
 def lines_of(request, names):
@@ -71,6 +72,8 @@ def verify(request, moment):
 
 def judge_head(request, moment):
     """Refuses a request whose head the connection refuses, before it looks at what is asked for."""
+    if is_coded(request):
+        judge_coding(request, BODY_LIMIT)
     refuse(re.search("%(?![0-9A-Fa-f]{2})", request.target), "InvalidURI")
     if is_presigned(request):
         verify(request, moment)

@@ -2,28 +2,34 @@
 it refuses of a body. Chunks are read byte by byte where they aren't data."""
 
 import re
+import sys
 
 from signing import CHUNKED, DIGITS, UNSIGNED, sha256
 
 from .bodies import Body
 from .chains import Chain
+from .codings import is_coded, uncoded
 from .requests import Request, refuse
 from .sums import CHECKSUM, is_met, is_read
 
 # What a request tells whose data comes in chunks with a checksum behind them: unsigned ones, or signed ones.
 UNSIGNED_CHUNKS, TRAILED_CHUNKS = "STREAMING-UNSIGNED-PAYLOAD-TRAILER", f"{CHUNKED}-TRAILER"
+# At most so many bytes a body has.
+BODY_LIMIT = 67_108_864
 # How many bytes such a trailer of signed chunks has beside its name and its value.
 FRAME = len(":\r\nx-amz-trailer-signature:\r\n\r\n") + DIGITS
 
 
 class Sent:
-    """The bytes of a body, to the end of Content-Length or to that of the input."""
+    """The bytes of a body, to the end of Content-Length or to that of the input; of an open one more are to come."""
 
-    def __init__(self, text):
-        self.left = text
+    def __init__(self, text, is_open=False):
+        self.left, self.is_open = text, is_open
 
     def take(self, size):
         """The next bytes, so many."""
+        if self.is_open and len(self.left) < size:
+            sys.exit("neither the body has ended nor the input")
         refuse(len(self.left) < size, "IncompleteBody")
         found, self.left = self.left[:size], self.left[size:]
         return found
@@ -80,15 +86,36 @@ def in_unsigned_chunks(text, decoded, name):
     return data, value
 
 
+def first_line(sent):
+    """The size of a signed chunk, and its signature."""
+    size = int(sent.before(b";", rb"[0-9A-Fa-f]", 8), 16)
+    sent.each(bytes([byte]) for byte in b"chunk-signature=")
+    told = sent.each([rb"[0-9a-f]"] * DIGITS).decode()
+    sent.each([b"\r", b"\n"])
+    return size, told
+
+
+def in_signed_chunks(text, decoded, chain):
+    """The data that comes in chunks signed by this chain, of a body of which so many bytes are data."""
+    sent, data, size = Sent(text), b"", None
+    while size != 0:
+        size, told = first_line(sent)
+        refuse(len(data) + size > decoded, "InvalidRequest")
+        chunk = sent.take(size)
+        sent.each([b"\r", b"\n"])
+        refuse(told != chain.next(chunk), "SignatureDoesNotMatch")
+        data += chunk
+    refuse(len(data) < decoded, "IncompleteBody")
+    refuse(sent.left, "InvalidRequest")
+    return data
+
+
 def in_trailed_chunks(text, length, decoded, name, chain):
     """The data that comes in chunks signed by this chain, and the value of the trailer of this name behind them, which is
     signed too, of a body of so many bytes, of which so many are data."""
     sent, data, size = Sent(text), b"", None
     while size != 0:
-        size = int(sent.before(b";", rb"[0-9A-Fa-f]", 8), 16)
-        sent.each(bytes([byte]) for byte in b"chunk-signature=")
-        told = sent.each([rb"[0-9a-f]"] * DIGITS).decode()
-        sent.each([b"\r", b"\n"])
+        size, told = first_line(sent)
         refuse(len(data) + size > decoded, "InvalidRequest")
         chunk, left = sent.take(size), length - (len(text) - len(sent.left))
         if size != 0:
@@ -108,36 +135,52 @@ def in_trailed_chunks(text, length, decoded, name, chain):
 
 
 class Payload(Request):
-    """A request behind whose head these bytes come, and no more. Where they are signed chunks they are right, and this
-    data is in them."""
+    """A request behind whose head these bytes come, and no more; the input may end there."""
 
-    def __init__(self, method, target, lines, behind, body):
+    def __init__(self, method, target, lines, behind, body, is_last=False):
         super().__init__(method, target, lines, body)
-        self.behind = behind
+        self.behind, self.is_last = behind, is_last
+
+    def sent(self):
+        """The bytes of the body, out of a transfer coding, and how many there have to be."""
+        if not is_coded(self):
+            length = int(self.line("content-length") or 0)
+            return self.behind[:length], length
+        sent = Sent(self.behind, is_open=not self.is_last)
+        data = uncoded(sent, BODY_LIMIT)
+        if sent.left:
+            sys.exit(f"{sent.left} stands behind a body in a transfer coding")
+        return data, len(data)
 
     def received(self):
-        word, length = self.line("x-amz-content-sha256"), int(self.line("content-length") or 0)
-        if word == CHUNKED:
-            return self.body
-        sent = self.behind[:length]
-        if word in (UNSIGNED_CHUNKS, TRAILED_CHUNKS):
-            self.body = self.in_chunks(sent, word == TRAILED_CHUNKS, length)
+        word, (sent, length) = self.line("x-amz-content-sha256"), self.sent()
+        if word in (CHUNKED, UNSIGNED_CHUNKS, TRAILED_CHUNKS):
+            self.body = self.in_chunks(sent, word, length)
             return self.body
         refuse(len(sent) < length, "IncompleteBody")
+        refuse(is_coded(self) and length != self.decoded_length(), "IncompleteBody")
         refuse(word not in (None, UNSIGNED, sha256(sent)), "XAmzContentSHA256Mismatch")
         self.body = Body.of(sent.decode())
         return super().received()
 
-    def in_chunks(self, sent, are_signed, length):
-        """The data that comes in chunks, which has to have the checksum behind them."""
-        name, decoded = self.line("x-amz-trailer").lower(), int(self.line("x-amz-decoded-content-length"))
-        if are_signed:
-            chain = Chain(self.line("authorization"), self.line("x-amz-date"))
-            data, value = in_trailed_chunks(sent, length, decoded, name, chain)
+    def decoded_length(self):
+        return int(self.line("x-amz-decoded-content-length"))
+
+    def in_chunks(self, sent, word, length):
+        """The data that comes in chunks, which has to have the checksum behind them, where one is there."""
+        if word == CHUNKED:
+            return Body.of(in_signed_chunks(sent, self.decoded_length(), self.chain()).decode())
+        name = self.line("x-amz-trailer").lower()
+        if word == TRAILED_CHUNKS:
+            data, value = in_trailed_chunks(sent, length, self.decoded_length(), name, self.chain())
         else:
-            data, value = in_unsigned_chunks(sent, decoded, name)
+            data, value = in_unsigned_chunks(sent, self.decoded_length(), name)
         kind = name.removeprefix(CHECKSUM)
         refuse(not is_read(kind, value), "InvalidRequest")
         refuse(not is_met(kind, value, data), "BadDigest")
         self.summed = {name: value}
         return Body.of(data.decode())
+
+    def chain(self):
+        """The chain of the signatures of its chunks."""
+        return Chain(self.line("authorization"), self.line("x-amz-date"))

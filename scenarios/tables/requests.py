@@ -149,7 +149,7 @@ class Request:
     """A request: its method, what its target names, the pairs of its query and of these its parameters, its header
     lines and its body. The server says in which dialect it reads it."""
 
-    dialect = JSON
+    dialect, version = JSON, "1.1"
 
     def __init__(self, method, target, lines=(), body=Body()):
         self.path, _, query = target.partition("?")
