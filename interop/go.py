@@ -28,7 +28,6 @@ class MinioGo(Client):
         "64 MiB": "with the frames of its chunks the body is over the limit",
         "bucket else": "it signs by the other region too",
     }
-    calls = {"empty": "a body by Transfer-Encoding: chunked, of which it tells no length"}
     program = None
 
     @classmethod

@@ -23,6 +23,7 @@ http {{
         location / {{
             proxy_pass http://{server};
             proxy_http_version 1.1;
+            proxy_request_buffering off;
             proxy_set_header Host $http_host;
             proxy_set_header Connection "";
         }}
