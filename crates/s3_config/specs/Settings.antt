@@ -3,6 +3,7 @@ use Rattle.std.specs.Prelude.{ℕ, Bool, true, not, ◌&&◌, ◌||◌, ◌==◌
 use Rattle.std.specs.List.{list_all, list_any}
 use Rattle.s3_names.specs.Names.{is_bucket_name}
 use Rattle.s3_terms.specs.declared.dialect.Dialect.{Dialect}
+use Rattle.s3_terms.specs.declared.dialect.Dialect.TheVariants.{Json, S3}
 use Rattle.s3_text.specs.Characters.{space, comma, slash, hyphen, is_letter_or_digit}
 use Rattle.std.specs.Str.{bytes_eq}
 
@@ -20,9 +21,11 @@ pub record Settings : Type 0 where
   pub buckets : List (List ℕ)
   pub dialect : Dialect
 
--- the greatest body that any server takes, in bytes
-abbrev pub greatest_body : ℕ
-greatest_body = 67_108_864
+-- the greatest body that a server may take, in bytes: 64 MiB, or, in the dialect of S3, the 5 GiB that one put has at most (the S3
+-- User Guide, "Uploading objects")
+abbrev pub greatest_body : Dialect → ℕ
+greatest_body Json = 67_108_864
+greatest_body S3 = 5_368_709_120
 
 -- a byte of an access key's id: no space, slash or comma
 abbrev pub is_id_byte : ℕ → Bool
@@ -66,7 +69,7 @@ are_opening_buckets buckets = list_all is_bucket_name buckets && all_different b
 -- the settings that a server accepts
 unfoldable pub are_settings : Settings → Bool
 are_settings s =
-    is_region s.region && are_access_keys s.keys && nat_le s.body_limit greatest_body && are_opening_buckets s.buckets
+    is_region s.region && are_access_keys s.keys && nat_le s.body_limit (greatest_body s.dialect) && are_opening_buckets s.buckets
 
 -- the secret of an id, if it is configured
 abbrev pub secret_of : List Credentials → List ℕ → Option (List ℕ)

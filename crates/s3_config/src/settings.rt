@@ -3,7 +3,7 @@ ghost use Rattle.std.specs.Prelude.{◌≡◌, ◌≤◌, ◌==◌, ◌||◌, �
 ghost use Rattle.std.specs.List.{list_all, list_any};
 ghost use Rattle.std.specs.Str.{bytes_eq};
 ghost use Rattle.s3_names.specs.Names.{is_bucket_name};
-ghost use Rattle.s3_config.specs.Settings.{is_id_byte, is_access_key_id, is_secret, are_credentials, is_region_byte, is_region, all_different, are_access_keys, are_opening_buckets, are_settings, secret_of};
+ghost use Rattle.s3_config.specs.Settings.{is_id_byte, is_access_key_id, is_secret, are_credentials, is_region_byte, is_region, all_different, are_access_keys, are_opening_buckets, are_settings, greatest_body, secret_of};
 
 use s3_names::BucketName;
 use s3_terms::Dialect;
@@ -19,8 +19,15 @@ const REGION_MAX: usize = 64;
 // The most access keys of a server.
 const KEYS_MAX: usize = 64;
 
-// The greatest body that any server takes, in bytes.
-const BODY_MAX: u64 = 67_108_864;
+// The greatest body that a server may take, in bytes: 64 MiB, or the 5 GiB that a put of S3 has at most.
+fn greatest_body(dialect: Dialect) -> u64
+    ensures { result ≡ greatest_body dialect }
+{
+    match dialect {
+        Dialect::Json => 67_108_864,
+        Dialect::S3 => 5_368_709_120,
+    }
+}
 
 /// An access key: its id and the secret that belongs to it. A contract sees it as both texts.
 #[derive(Drop)]
@@ -110,8 +117,8 @@ impl Model for Config {
 impl Config {
     /// The settings of these parts: a region of 1 to 64 of `a-z 0-9 -`; 1 to 64 access keys with
     /// distinct ids; the least size of a part that is not the last, in bytes; the greatest size of a
-    /// body, in bytes, at most 67,108,864; the buckets that are there from the start, with
-    /// distinct names; and how documents are spelled. `None` where they are out of these limits,
+    /// body, in bytes, at most 67,108,864, or 5,368,709,120 in the dialect of S3; the buckets that are
+    /// there from the start, with distinct names; and how documents are spelled. `None` where they are out of these limits,
     /// and they are dropped. Compares each bucket with each other.
     #[tactic(auto, unfolding(crate::specs::Settings::are_settings))]
     pub fn new(
@@ -128,7 +135,7 @@ impl Config {
         if !is_valid_region(region.as_slice()) || !are_valid_keys(keys.as_slice()) {
             return None;
         }
-        if body_limit > BODY_MAX || !are_valid_buckets(buckets.as_slice()) {
+        if body_limit > greatest_body(dialect) || !are_valid_buckets(buckets.as_slice()) {
             return None;
         }
         Some(Config {
@@ -169,7 +176,7 @@ impl Config {
     #[tactic(auto, unfolding(crate::specs::Settings::are_settings))]
     pub fn body_limit(&self) -> u64
         ensures value { result ≡ self.now.body_limit }
-        ensures bound { result ≤ 67_108_864 }
+        ensures bound { result ≤ 5_368_709_120 }
         ensures valid { IsTrue (are_settings self.now) }
     {
         self.body_limit

@@ -62,12 +62,13 @@ fn buckets(alloc: Global, names: &[&[u8]]) -> Vec<BucketName> {
     buckets
 }
 
-// A region, the ids of keys, the greatest body, and the names of buckets.
+// A region, the ids of keys, the greatest body, the names of buckets, and the dialect.
 type Parts = (
     &'static [u8],
     &'static [&'static [u8]],
     u64,
     &'static [&'static [u8]],
+    Dialect,
 );
 
 // The settings of these parts, if they are any; `InternalError` where not each part could be made.
@@ -76,9 +77,7 @@ fn config(alloc: Global, parts: &Parts) -> Result<Option<Config>, Code> {
     let buckets = buckets(alloc, parts.3);
     let are_made = keys.len() == parts.1.len() && buckets.len() == parts.3.len();
     match Vec::from_slice(alloc, parts.0) {
-        Ok(region) if are_made => {
-            Ok(Config::new(region, keys, 5, parts.2, buckets, Dialect::Json))
-        }
+        Ok(region) if are_made => { Ok(Config::new(region, keys, 5, parts.2, buckets, parts.4)) }
         _ => Err(Code::InternalError),
     }
 }
@@ -90,14 +89,22 @@ const PAIL: &[&[u8]] = &[b"pail"];
 // Parts, and whether they are settings.
 struct Limit(Parts, bool);
 
-static LIMITS: [Limit; 7] = [
-    Limit((b"r", ONE, 0, &[]), true),
-    Limit((b"us-east-1", ONE, 67_108_865, PAIL), false),
-    Limit((b"us-east-1", &[b"one", b"one"], 5, PAIL), false),
-    Limit((b"us-east-1", ONE, 5, &[b"pail", b"pail"]), false),
-    Limit((b"us-east-1", &[], 5, PAIL), false),
-    Limit((b"", ONE, 5, PAIL), false),
-    Limit((b"us_east", ONE, 5, PAIL), false),
+static LIMITS: [Limit; 9] = [
+    Limit((b"r", ONE, 0, &[], Dialect::Json), true),
+    Limit((b"us-east-1", ONE, 67_108_865, PAIL, Dialect::Json), false),
+    Limit((b"us-east-1", ONE, 5_368_709_120, PAIL, Dialect::S3), true),
+    Limit((b"us-east-1", ONE, 5_368_709_121, PAIL, Dialect::S3), false),
+    Limit(
+        (b"us-east-1", &[b"one", b"one"], 5, PAIL, Dialect::Json),
+        false,
+    ),
+    Limit(
+        (b"us-east-1", ONE, 5, &[b"pail", b"pail"], Dialect::Json),
+        false,
+    ),
+    Limit((b"us-east-1", &[], 5, PAIL, Dialect::Json), false),
+    Limit((b"", ONE, 5, PAIL, Dialect::Json), false),
+    Limit((b"us_east", ONE, 5, PAIL, Dialect::Json), false),
 ];
 
 // Whether the parts are settings, or are none, as it says.
@@ -115,6 +122,7 @@ static GREATEST: Parts = (
     &[b"one", b"two"],
     67_108_864,
     &[b"pail", b"tub"],
+    Dialect::Json,
 );
 
 fn tells_its_parts(made: &Config) -> bool {

@@ -65,6 +65,7 @@ const FAULTS: &str = "\
     s3d replay --keys keys --moment 0 --region US|bad setting;\
     s3d replay --keys keys --moment 0 --min-part 1e3|bad setting;\
     s3d replay --keys keys --moment 0 --body-limit 67108865|bad setting;\
+    s3d replay --keys keys --moment 0 --dialect s3 --body-limit 5368709121|bad setting;\
     s3d replay --keys shelf --moment 0 --records maps|bad setting;\
     s3d replay --keys shelf --moment 0 --records |bad setting;\
     s3d replay --keys shelf --events --records SQL|bad setting;\
