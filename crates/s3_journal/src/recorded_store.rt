@@ -2,7 +2,7 @@
 ghost use Rattle.std.specs.Prelude.{◌≡◌, ◌≢◌, ◌++◌, ◌∷◌, List, [], false, length, Some, None, IfOk, IfSome, OnOk, OnErr};
 ghost use mathlib.Core.List.{IsPrefix};
 ghost use Rattle.s3_machine.specs.Step.{State};
-ghost use Rattle.s3_journal.specs.RecordedStore.{HasEntries, KeepsHistory, MayLack};
+ghost use Rattle.s3_journal.specs.RecordedStore.{HasEntries, KeepsHistory, MayLack, LastsFrom};
 ghost use Rattle.s3_journal.specs.Noted.{begun_with, front_of};
 ghost use Rattle.s3_journal.specs.Recorded.{Recorded, recorded};
 ghost use Rattle.s3_store.specs.Steps.{after_step, outcome_of};
@@ -204,12 +204,13 @@ impl<R: Records + Drop> RecordedStore<R> {
     }
 
     /// The store, with what is known of a crash now. Where a commit answered `Ok` since the history began, a crash leaves nothing, or
-    /// the state after a beginning of the history that has all entries which were there at the last such commit. Else nothing is
-    /// known of it. It costs nothing.
+    /// the state after a beginning of the history that has all entries which were there at the last such commit, and that is known of
+    /// the records (`leaves_one_of`). Else nothing is known of it. It costs nothing.
     pub fn outlive_crashes(&self) -> &Store<R>
         ensures value { result.now.standing ≡ self.now.store }
         ensures lasts { (front : List Recorded) (left : State) → self.now.committed ≡ Some front → R.leaves result.now.records left
             → HasEntries self.now front left }
+        ensures known { IfSome self.now.committed (LastsFrom (R.leaves_one_of result.now.records) self.now.rules self.now.opening.state self.now.entries) }
     {
         self.store.outlive_crashes();
         &self.store

@@ -2,6 +2,7 @@ pub mod AlikeLemmas
 pub mod ChangeLemmas
 pub mod DeathLemmas
 pub mod EntryLemmas
+pub mod EnteredLemmas
 pub mod EventLemmas
 pub mod FaultLemmas
 pub mod FreshLemmas

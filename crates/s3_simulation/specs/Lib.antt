@@ -1,4 +1,5 @@
 pub mod Alike
+pub mod Entered
 pub mod Events
 pub mod Faults
 pub mod Laws

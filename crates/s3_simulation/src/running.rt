@@ -1,9 +1,11 @@
 //! A whole run: events, one after another.
 
 ghost use Rattle.std.specs.Prelude.{◌≡◌, ℕ, List, [], IfOk, OnOk};
+ghost use Rattle.s3_simulation.specs.Entered.{EntersEach};
 ghost use Rattle.s3_simulation.specs.Run.{RunsFrom, each_moments};
 ghost use Rattle.s3_simulation.specs.Shown.{written_by_all};
 ghost use Rattle.s3_simulation.specs.StandsAfter.{StandsAfter};
+ghost use Rattle.s3_simulation.specs.World.{Serving};
 
 use crate::laws::worlds_run;
 use crate::world::World;
@@ -35,6 +37,11 @@ pub fn run<'a, R: Records + Drop>(
     ensures stands { IfOk result (λ world. StandsAfter world (each_moments moments.now) events.now) }
     ensures settings { IfOk result (λ world. world.settings ≡ config.now) }
     ensures opens { IfOk result (λ world. world.recorded_store.opening ≡ store.standing) }
+
+    // Each turn that waits has its entry at its event, or memory may be lacking for it.
+    ensures entered { IfOk result (λ world. (first : Serving) × StandsAfter first (each_moments moments.now) []
+        × (first.settings ≡ config.now) × (first.recorded_store.opening ≡ store.standing)
+        × EntersEach R.is_in_memory (each_moments moments.now) [] first events.now world) }
 {
     worlds_run();
     let mut world = World::new(alloc, config, store, moments)?;
@@ -48,6 +55,8 @@ fn step_all<R: Records + Drop>(world: &mut World<'_, R>, events: &[Event]) -> Re
         → OnOk result (StandsAfter world.new moments events.now) }
     ensures settings { world.new.settings ≡ world.old.settings }
     ensures opens { world.new.recorded_store.opening ≡ world.old.recorded_store.opening }
+    ensures entered { (moments : List (List ℕ)) → StandsAfter world.old moments []
+        → OnOk result (EntersEach R.is_in_memory moments [] world.old events.now world.new) }
 {
     for number in 0..events.len() {
         world.step(&events[number])?;

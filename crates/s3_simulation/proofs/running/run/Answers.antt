@@ -18,4 +18,11 @@ returns g c =
       stands = c.in_ok-step_all.ensures.stands moments c.in_ok-world.ensures.begins;
       settings = c.in_ok-step_all.ensures.settings ∙ c.in_ok-world.ensures.settings;
       opens = opens;
+      entered = (
+        c.in_ok-world.world,
+        c.in_ok-world.ensures.begins,
+        c.in_ok-world.ensures.settings,
+        c.in_ok-world.ensures.opens,
+        c.in_ok-step_all.ensures.entered moments c.in_ok-world.ensures.begins,
+      );
     }
