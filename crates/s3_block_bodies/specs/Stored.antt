@@ -19,6 +19,12 @@ IsStored file number bytes = Stores file (extent_of number (length bytes)) (stor
 abbrev pub AreStored : Contents → List ℕ → Type 0
 AreStored contents file = (number : ℕ) (bytes : List ℕ) → map.get contents number ≡ Some bytes → IsStored file number bytes
 
+-- what the file has under a number that is named stands there
+abbrev pub HasNamed : List ℕ → (ℕ → ℕ) → Contents → Type 0
+HasNamed file uses contents =
+    (number : ℕ) (bytes : List ℕ) → IsAddressable (extent_of number (length bytes)) → IsStored file number bytes → 0 < uses number
+    → map.get contents number ≡ Some bytes
+
 -- what one may find under numbers who opens the file after a crash now: of a clean disk, there is a file that the crash may leave, and
 -- what stands in it under a number is found under that number
 pub record MayFind {D : Type 0} (may_leave : D → List ℕ → Type 0) (is_clean : D → Bool) (disk : D) (found : Contents) : Type 0 where

@@ -3,13 +3,14 @@ ghost use Rattle.std.specs.Prelude.{◌≡◌, ℕ, true, IsTrue, IfOk};
 ghost use Rattle.std.specs.FinMap as map;
 ghost use Rattle.s3_stored_bodies.specs.Numbers.{times};
 ghost use Rattle.s3_stored_bodies.specs.Held.{named_where_held};
-ghost use Rattle.s3_block_bodies.specs.Stored.{AreStored, MayFind, AreHoused, IsSettled};
+ghost use Rattle.s3_block_bodies.specs.Stored.{AreStored, HasNamed, MayFind, AreHoused, IsSettled};
 ghost use Rattle.s3_block_bodies.specs.Parts.{contents_in, uses_in, disk_in};
 
 use crate::changing;
 use crate::loading::{Loaded, load_all};
 use s3_block_file::{BlockFile, Extent};
 use s3_bodies::Body;
+use s3_progress::Progress;
 use s3_storage::StorageFault;
 use s3_stored_bodies::{MemoryBodies, NotSettled, StoredBodies};
 use s3_terms::NoMemory;
@@ -55,13 +56,18 @@ impl<D: Disk> Model for BlockBodies<D> {
 
 impl<D: Disk + Drop> BlockBodies<D> {
     /// The bodies that a file has under the numbers that rows name: each number as often as rows name it, in any order. All
-    /// other room of the file is free.
+    /// other room of the file is free. Each number is a step of the progress.
     ///
     /// # Errors
     ///
     /// `Damaged` where a number has no body, a checksum isn't that of the bytes, or two bodies have a granule in common.
     /// `NoMemory`. `NoRoom` or `Failed` where a call of the disk failed.
-    pub fn open(alloc: Global, mut disk: D, numbers: &[u64]) -> Result<BlockBodies<D>, StorageFault>
+    pub fn open<P: Progress>(
+        alloc: Global,
+        mut disk: D,
+        numbers: &[u64],
+        progress: &mut P,
+    ) -> Result<BlockBodies<D>, StorageFault>
         requires { IsTrue (D.Disk.is_usable disk) }
         ensures uses { IfOk result (λ bodies. uses_in bodies ≡ (λ number. times number numbers.now)) }
         ensures found { IfOk result (λ bodies. IsTrue (D.Disk.is_clean (disk_in bodies)) → AreStored (contents_in bodies) (D.Disk.seen disk)) }
@@ -69,7 +75,7 @@ impl<D: Disk + Drop> BlockBodies<D> {
         ensures live { IfOk result (λ bodies. IsTrue (D.Disk.is_usable (disk_in bodies))) }
         ensures clean { IfOk result (λ bodies. IsTrue (D.Disk.is_clean (disk_in bodies)) → IsTrue (D.Disk.is_clean disk)) }
     {
-        let loaded = load_all(alloc, &mut disk, numbers)?;
+        let loaded = load_all(alloc, &mut disk, numbers, progress)?;
         let Loaded { memory, extents } = loaded;
         let waiting = Vec::with_capacity(alloc, extents.len())?;
         let file = BlockFile::open(alloc, disk, extents.as_slice())?;
@@ -81,12 +87,20 @@ impl<D: Disk + Drop> BlockBodies<D> {
         })
     }
 
-    /// That the disk has each body that a row names, and that nothing else is written where it lies. It costs nothing.
+    /// That the disk has each body that a row names, that nothing else is written where it lies, and that what the disk has under
+    /// a number that is named stands there. It costs nothing.
     pub fn are_housed(&self)
         ensures housed { AreHoused (contents_in self.now) self.now.granules }
         ensures stored { IsTrue (D.Disk.is_clean (disk_in self.now)) → AreStored (contents_in self.now) (D.Disk.seen (disk_in self.now)) }
+        ensures found { IsTrue (D.Disk.is_clean (disk_in self.now)) → HasNamed (D.Disk.seen (disk_in self.now)) (uses_in self.now) (contents_in self.now) }
     {
         let _ = &self.file;
+    }
+
+    /// How many bytes of the file are free in front of the last body that it has, or had since it was opened. It serves to tell of it, and no clause does. It takes
+    /// one pass over the granules of the file.
+    pub fn free_bytes(&self) -> u64 {
+        self.file.free_bytes()
     }
 
     /// The disk, as it is.

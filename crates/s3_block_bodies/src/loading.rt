@@ -8,6 +8,7 @@ ghost use Rattle.s3_block_bodies.specs.Loading.{AreListed};
 use crate::header::HEADER_SIZE;
 use crate::reading::{read_body, size_of};
 use s3_block_file::Extent;
+use s3_progress::Progress;
 use s3_storage::StorageFault;
 use s3_stored_bodies::{MemoryBodies, StoredBodies};
 use sqlite_disk::Disk;
@@ -53,11 +54,12 @@ fn load<D: Disk>(
     Ok(())
 }
 
-/// Reads the bodies of these numbers, each once. A number counts as often as it stands there.
-pub(crate) fn load_all<D: Disk>(
+/// Reads the bodies of these numbers, each once. A number counts as often as it stands there, and is a step of the progress.
+pub(crate) fn load_all<D: Disk, P: Progress>(
     alloc: Global,
     disk: &mut D,
     numbers: &[u64],
+    progress: &mut P,
 ) -> Result<Loaded, StorageFault>
     requires { IsTrue (D.Disk.is_usable disk.old) }
     ensures uses { IfOk result (λ loaded. uses_of loaded.memory ≡ (λ number. times number numbers.now)) }
@@ -74,6 +76,7 @@ pub(crate) fn load_all<D: Disk>(
     };
     for number in numbers {
         load(&mut loaded, alloc, disk, file_size, *number)?;
+        progress.step();
     }
     Ok(loaded)
 }

@@ -6,6 +6,7 @@ ghost use Rattle.s3_block_bodies.specs.Stored.{IsSettled};
 ghost use Rattle.s3_block_bodies.specs.Parts.{contents_in, uses_in, disk_in};
 
 use crate::BlockBodies;
+use s3_progress::Nobody;
 use s3_storage::StorageFault;
 use sqlite_disk::Crash;
 use std::alloc::Global;
@@ -23,7 +24,7 @@ pub fn opened_after_crash<D: Crash + Drop>(
 {
     let mut disk = bodies.into_disk();
     disk.crash();
-    let after = BlockBodies::open(alloc, disk, numbers)?;
+    let after = BlockBodies::open(alloc, disk, numbers, &mut Nobody)?;
     after.are_housed();
     Ok(after)
 }

@@ -9,7 +9,7 @@ ghost use Rattle.s3_block_file.specs.Faults.{TellsRoom, HasCause, IsOpenFault};
 ghost use Rattle.s3_block_file.specs.BlockFile.{disk_of, uses_of, IsLive, Survives};
 
 use crate::disk_calls;
-use crate::extent::{Extent, MAX_SIZE, granule_count};
+use crate::extent::{Extent, GRANULE, MAX_SIZE, granule_count};
 use crate::granules::{Granules, lower_all};
 use s3_storage::StorageFault;
 use sqlite_disk::Disk;
@@ -63,6 +63,12 @@ impl<D: Disk + Drop> BlockFile<D> {
         ensures { result ≡ D.Disk.is_usable (disk_of self.now) }
     {
         self.disk.may_be_used()
+    }
+
+    /// How many bytes in granules that no body has, up to the last one that a body had. It serves to tell of it, and no clause
+    /// does. It takes one pass over the granules.
+    pub fn free_bytes(&self) -> u64 {
+        (self.granules.free_count() as u64).saturating_mul(GRANULE as u64)
     }
 
     /// The disk, as it is.

@@ -63,6 +63,11 @@ impl Granules {
         }
     }
 
+    /// How many of them no body has.
+    pub(crate) fn free_count(&self) -> usize {
+        self.uses.iter().filter(|count| **count == 0).count()
+    }
+
     /// Counts one extent more, whose granules must be free, in a file of so many bytes.
     fn place(&mut self, extent: &Extent, size: usize) -> Result<(), StorageFault>
         ensures addressable { OnOk result (IsAddressable extent.now) }

@@ -41,7 +41,7 @@ pub fn kept_answer<'a, R: Wait, G: FolderKeeper, D: Device>(
     rt: &R,
     alloc: Global,
     path: &'a str,
-    folders: &G,
+    folders: &mut G,
     config: &Config,
     mode: ReplayMode,
     device: &mut D,

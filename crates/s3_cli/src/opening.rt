@@ -37,7 +37,7 @@ pub fn opened_store<Q: Keeper>(
 #[tactic(auto, using(crate::proofs::BaseLemmas::basing))]
 pub fn found_store<'a, G: FolderKeeper>(
     alloc: Global,
-    folders: &G,
+    folders: &mut G,
     path: &'a str,
     config: &Config,
 ) -> Result<Store<G::Kept>, Fault<'a>>
@@ -46,7 +46,11 @@ pub fn found_store<'a, G: FolderKeeper>(
 {
     match folders.open(alloc, path, config.buckets()) {
         Ok(opened) => {
-            let Opened { records, number } = opened;
+            let Opened {
+                records,
+                number,
+                ..
+            } = opened;
             Ok(Store::over(records, number))
         }
         Err(StorageFault::NoMemory) => Err(Fault::OutOfMemory),

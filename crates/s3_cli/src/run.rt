@@ -76,7 +76,7 @@ pub fn run_words<'a, R: Wait, S: AsStr, F: Files, Q: Keeper, G: FolderKeeper, D:
     words: &'a [S],
     files: &F,
     tables: &Q,
-    folders: &G,
+    folders: &mut G,
     device: &mut D,
     errors: &mut E,
 ) -> Ran<'a>
@@ -107,7 +107,7 @@ fn run_task<'a, R: Wait, F: Files, Q: Keeper, G: FolderKeeper, D: Device, E: Dev
     task: &Task<'a>,
     files: &F,
     tables: &Q,
-    folders: &G,
+    folders: &mut G,
     device: &mut D,
     errors: &mut E,
 ) -> u8
@@ -157,7 +157,7 @@ fn work<'a, R: Wait, F: Files, Q: Keeper, G: FolderKeeper, D: Device>(
     task: &Task<'a>,
     files: &F,
     tables: &Q,
-    folders: &G,
+    folders: &mut G,
     device: &mut D,
 ) -> Result<(), Fault<'a>>
     ensures done { OnOk result (IsTaskDone (F.known files.now) (D.traffic device.old) (D.traffic device.new) task.now) }
@@ -176,7 +176,7 @@ fn task_text<'a, R: Wait, F: Files, Q: Keeper, G: FolderKeeper, D: Device>(
     task: &Task<'a>,
     files: &F,
     tables: &Q,
-    folders: &G,
+    folders: &mut G,
     device: &mut D,
 ) -> Result<Vec<u8>, Fault<'a>>
     ensures value { IfOk result (λ text. IsTaskText (F.known files.now) (D.traffic device.old) (D.traffic device.new) task.now text.items) }
@@ -198,7 +198,7 @@ fn replay<'a, R: Wait, F: Files, Q: Keeper, G: FolderKeeper, D: Device>(
     options: &ReplayOptions<'a>,
     files: &F,
     tables: &Q,
-    folders: &G,
+    folders: &mut G,
     device: &mut D,
 ) -> Result<Vec<u8>, Fault<'a>>
     ensures value { IfOk result (λ text. IsReplayed (F.known files.now) (D.traffic device.old) (D.traffic device.new) options.now text.items) }
@@ -230,7 +230,7 @@ fn answered_over<'a, R: Wait, Q: Keeper, G: FolderKeeper, D: Device>(
     folder: Option<&'a str>,
     records: RecordsKind,
     tables: &Q,
-    folders: &G,
+    folders: &mut G,
     config: &Config,
     mode: ReplayMode,
     device: &mut D,

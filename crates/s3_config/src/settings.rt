@@ -19,7 +19,7 @@ const REGION_MAX: usize = 64;
 // The most access keys of a server.
 const KEYS_MAX: usize = 64;
 
-// The greatest body that a server may take, in bytes: 64 MiB, or the 5 GiB that a put of S3 has at most.
+// The greatest body that a server may take, in bytes: 64 MiB, or 5 GiB, where S3's User Guide has 5 GB for one put.
 fn greatest_body(dialect: Dialect) -> u64
     ensures { result ≡ greatest_body dialect }
 {

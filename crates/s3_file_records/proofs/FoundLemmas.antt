@@ -11,7 +11,7 @@ use Rattle.s3_stored_bodies.specs.Numbers.{Contents}
 use Rattle.s3_stored_rows.specs.Bodies.{encoding, numbers_named}
 use Rattle.s3_table_records.specs.Numbered.{IsAbove}
 use Rattle.s3_table_records.proofs.NumberLemmas.{later_above}
-use Rattle.s3_file_records.specs.Found.{said, IsFound}
+use Rattle.s3_file_records.specs.Found.{said, IsFound, WasOpen}
 
 with_store : (found : Found) (t : Tables) (store : List StoreColumns) → IsFound found t → IsFound found (record t { store = store })
 unfolding catalogue_of numbers_named
@@ -71,3 +71,17 @@ pub asked_same : (old new : State) (t : Tables) → Reads old new → (HasCleanD
 asked_same old new t reads same live clean =
     let up = live clean in
     reads.kept clean up ∙ same (omega (arith, reads.survives.clean, clean)) (reads.was_open clean up)
+
+-- and was open where it is
+pub asked_was : (old new : State) → Reads old new → (HasCleanDisk new → IsTrue new.is_open) → HasCleanDisk new → WasOpen old
+asked_was old new reads live clean = (omega (arith, reads.survives.clean, clean), reads.was_open clean (live clean))
+
+-- what is so is so of each answer
+pub always_so : {P R E : Type 0} (r : Result R E) → P → IfOk r (λ _. P)
+always_so (Ok x) so = so
+always_so (Err e) so = tt
+
+-- what is so of a value is so of what an answer has in its place
+pub so_of_same : {X R E : Type 0} (of : R → X) (x : X) (P : X → Type 0) (r : Result R E) → IfOk r (λ y. of y ≡ x) → P x → IfOk r (λ y. P (of y))
+so_of_same of x P (Ok y) same so = subst P (sym same) so
+so_of_same of x P (Err e) same so = tt

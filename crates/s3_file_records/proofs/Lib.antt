@@ -1,2 +1,3 @@
 pub mod FoundLemmas
 pub mod SendLemmas
+pub mod HeldLemmas

@@ -3,6 +3,7 @@ use denote.Param.Send.{IsSend, sendable}
 use denote.Param.SendFields.{variants_send}
 use Rattle.std.proofs.Crossing.{crosses}
 use Rattle.s3_sql_rows.proofs.SendLemmas.{rows_send}
+use Rattle.s3_table_files.proofs.file_tables.FileTables.TheSendSync.{the_send as files_send}
 use Rattle.s3_tables.proofs.table_file.TableFile.TheSendSync.{the_send as file_send}
 use Rattle.sqlite_store.proofs.store.FileStore.TheSendSync.{the_send as store_send}
 use Rattle.sqlite_disk.proofs.modelled.Modelled.TheSendSync.{the_send as disk_send}
@@ -14,14 +15,12 @@ use Rattle.s3_stored_rows.specs.contracts.rows.StoredPart as part
 use Rattle.s3_stored_rows.specs.contracts.rows.StoreNumbers as numbers
 use Rattle.s3_stored_rows.specs.contracts.rows.TableName as table
 use Rattle.s3_stored_rows.specs.contracts.change.Change as change
-use Rattle.s3_table_files.specs.contracts.file_tables.FileTables as tables
+use Rattle.s3_file_records.specs.contracts.system_tables.SystemTables as system
 use Rattle.s3_mirrored_rows.specs.contracts.mirrored_rows.MirroredRows.{the_row}
+use Rattle.s3_table_files.specs.declared.lasting_tables.LastingTables as lasting
 
 pub host_send : IsSend host.the_row
 host_send = search (sendable) depth 20
-
-tables_send : IsSend tables.the_row
-tables_send = search (sendable, file_send, store_send, disk_send, host_send) depth 20
 
 bucket_send : IsSend bucket.the_row
 bucket_send = search (sendable, crosses) depth 30
@@ -44,5 +43,8 @@ table_send = search (sendable) depth 30
 change_send : IsSend change.the_row
 change_send = variants_send change.enum ((bucket_send, tt), ((version_send, tt), ((upload_send, tt), ((part_send, tt), ((numbers_send, tt), ((table_send, (search sendable, tt)), tt))))))
 
-pub mirrored_send : IsSend the_row
-mirrored_send = search (sendable, crosses, rows_send, tables_send, change_send) depth 30
+system_send : IsSend system.the_row
+system_send = search (sendable, files_send, file_send, store_send, disk_send, host_send) depth 20
+
+pub mirrored_send : (g : lasting.Ghosts system.the_row.Denot) → IsSend (the_row system.the_row g)
+mirrored_send g = search (sendable, crosses, rows_send, system_send, change_send) depth 30

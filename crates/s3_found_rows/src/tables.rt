@@ -10,6 +10,7 @@ use crate::found_tables::FoundTables;
 use crate::parts::put_parts;
 use crate::uploads::put_uploads;
 use crate::versions::put_versions;
+use s3_progress::Progress;
 use s3_storage::StorageFault;
 use s3_stored_rows::StoredRows;
 use std::alloc::Global;
@@ -17,12 +18,13 @@ use std::mem;
 
 /// Puts all records that were found into rows that have none, and the numbers of bodies that they name behind these. Answers a rowid
 /// above which there is none. What was found is moved out.
-pub(crate) fn put_tables<R: StoredRows>(
+pub(crate) fn put_tables<R: StoredRows, P: Progress>(
     alloc: Global,
     rows: &mut R,
     found: &mut FoundTables,
     number: i64,
     bodies: &mut Vec<u64>,
+    progress: &mut P,
 ) -> Result<i64, StorageFault>
     requires { R.tables rows.old ≡ record no_rows { store = (R.tables rows.old).store } }
     ensures filled { IfOk result (λ last. AreFilled last number (R.tables rows.new)) }
@@ -31,7 +33,7 @@ pub(crate) fn put_tables<R: StoredRows>(
 {
     let buckets = put_buckets(rows, mem::replace(&mut found.buckets, Vec::new(alloc)))?;
     let versions = mem::replace(&mut found.versions, Vec::new(alloc));
-    let versions = put_versions(alloc, rows, versions, number, bodies)?;
+    let versions = put_versions(alloc, rows, versions, number, bodies, progress)?;
     let mut rowids = Vec::new(alloc);
     let uploads = mem::replace(&mut found.uploads, Vec::new(alloc));
     let uploads = put_uploads(rows, uploads, number, &mut rowids)?;

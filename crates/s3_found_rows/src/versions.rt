@@ -10,6 +10,7 @@ ghost use Rattle.s3_found_rows.specs.Fitting.{may_have, version_fits};
 ghost use Rattle.s3_found_rows.specs.Order.{IsFilled};
 
 use crate::naming::{is_count, reversed, take_numbers};
+use s3_progress::Progress;
 use s3_storage::StorageFault;
 use s3_stored_rows::{Change, StoredBucket, StoredRows, StoredVersion};
 use std::alloc::Global;
@@ -21,13 +22,14 @@ const UNVERSIONED: i64 = 0;
 const NULL_ID: i64 = -1;
 
 /// Puts the versions that were found into rows that have none, and their numbers of bodies behind these. Answers a rowid above which there
-/// is none.
-pub(crate) fn put_versions<R: StoredRows>(
+/// is none. Each version is a step of the progress.
+pub(crate) fn put_versions<R: StoredRows, P: Progress>(
     alloc: Global,
     rows: &mut R,
     found: Vec<StoredVersion>,
     number: i64,
     bodies: &mut Vec<u64>,
+    progress: &mut P,
 ) -> Result<i64, StorageFault>
     requires { (R.tables rows.old).versions ≡ [] }
     ensures rows { IfOk result (λ _. R.tables rows.new ≡ record (R.tables rows.old) { versions = map version_columns found.items }) }
@@ -40,6 +42,7 @@ pub(crate) fn put_versions<R: StoredRows>(
         let row = version.row;
         put_version(alloc, rows, version, last, number, bodies)?;
         last = row;
+        progress.step();
     }
     Ok(last)
 }

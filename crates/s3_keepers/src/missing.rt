@@ -1,7 +1,7 @@
 //! The first buckets of records that were found.
 ghost use Rattle.std.specs.Prelude.{◌≡◌, ℕ, List, true, IfOk, OnOk};
 ghost use Rattle.s3_records.specs.Catalogue.{has_bucket};
-ghost use Rattle.s3_keepers.specs.Begun.{HasBuckets};
+ghost use Rattle.s3_keepers.specs.Begun.{HasBuckets, with_bucket, with_buckets};
 ghost use Rattle.s3_keepers.specs.Sound.{IsSoundCatalogue};
 
 use crate::laws::new_buckets_stay_sound;
@@ -19,6 +19,7 @@ pub fn add_missing<K: Records>(
     alloc: Global,
     names: &[BucketName],
 ) -> Result<(), NoMemory>
+    ensures value { OnOk result (K.catalogue records.new ≡ with_buckets names.now (K.catalogue records.old)) }
     ensures there { OnOk result (HasBuckets names.now (K.catalogue records.new)) }
     ensures sound { (number : ℕ) → IsSoundCatalogue (K.catalogue records.old) number → IsSoundCatalogue (K.catalogue records.new) number }
 {
@@ -34,6 +35,7 @@ fn add_if_missing<K: Records>(
     alloc: Global,
     name: &BucketName,
 ) -> Result<(), NoMemory>
+    ensures value { OnOk result (K.catalogue records.new ≡ with_bucket (K.catalogue records.old) name.now) }
     ensures there { OnOk result (has_bucket (K.catalogue records.new) name.now ≡ true) }
     ensures others { (other : List ℕ) → has_bucket (K.catalogue records.old) other ≡ true → has_bucket (K.catalogue records.new) other ≡ true }
     ensures sound { (number : ℕ) → IsSoundCatalogue (K.catalogue records.old) number → IsSoundCatalogue (K.catalogue records.new) number }

@@ -2,23 +2,21 @@
 use Rattle.std.specs.Prelude.{◌≡◌, ◌⊎◌, IsTrue, List, Result, OnOk, refl}
 use Rattle.std.specs.Coded.{Coded, code_by, coded×}
 use Rattle.sqlite_trees.specs.Tree.{Trees}
-use Rattle.sqlite.specs.Held.{Held, held_code}
 use Rattle.sqlite.specs.State.{State, HasCleanDisk}
 use Rattle.s3_rows.specs.Columns.{Tables}
 use Rattle.s3_stored_rows.specs.declared.change.Change.{Change}
 use Rattle.s3_stored_rows.specs.Changes.{after_all}
 use Rattle.s3_tables.specs.Keeping.{tables}
 use Rattle.s3_tables.specs.Stored.{tables_in}
-use Rattle.s3_table_files.specs.System.{SystemStore}
 
 -- the two
-pub record Mirror : Type 0 where
+pub record Mirror (F : Type 0) : Type 0 where
   pub memory : Tables
-  pub file : Held SystemStore
+  pub file : F
 
 -- how std numbers them
-abbrev pub mirror_code : Coded Tables → Coded SystemStore → Coded Mirror
-mirror_code memory store = code_by (Tables × Held SystemStore) (coded× memory (held_code store)) (λ m. (m.memory, m.file)) (λ p. record { memory = p.0; file = p.1 }) (λ _. refl)
+abbrev pub mirror_code : {F : Type 0} → Coded Tables → Coded F → Coded (Mirror F)
+mirror_code {F} memory file = code_by (Tables × F) (coded× memory file) (λ m. (m.memory, m.file)) (λ p. record { memory = p.0; file = p.1 }) (λ _. refl)
 
 -- as long as the file answers, over a clean disk, the changes that wait make these tables of its own
 abbrev pub Awaits : State → List Change → Tables → Type 0

@@ -1,6 +1,5 @@
 //! Changes that wait are made in the file, together.
 ghost use Rattle.std.specs.Prelude.{◌≡◌, length, take, is_ok, OnOk};
-ghost use Rattle.sqlite.specs.Files.{file_state};
 ghost use Rattle.s3_rows.specs.Columns.{Tables};
 ghost use Rattle.s3_stored_rows.specs.Changes.{after_all};
 ghost use Rattle.s3_mirrored_rows.specs.Mirror.{Awaits, Commits};
@@ -8,7 +7,7 @@ ghost use Rattle.s3_mirrored_rows.specs.Mirror.{Awaits, Commits};
 use s3_records::CommitError;
 use s3_storage::StorageFault;
 use s3_stored_rows::{Change, copied_changes};
-use s3_table_files::{FileTables, SpareRoom, table_fault};
+use s3_table_files::{LastingTables, SpareRoom, table_fault};
 use s3_tables::stored_tables_are_one;
 use s3_terms::NoMemory;
 
@@ -39,8 +38,8 @@ fn lacks_room(answer: &Result<(), StorageFault>) -> bool {
 }
 
 // Makes all changes that wait in the file, which syncs them. Where it is an error all of them wait on.
-fn make(file: &mut FileTables, waiting: &mut Vec<Change>) -> Result<(), StorageFault>
-    ensures { (t : Tables) → Awaits (file_state file.old) waiting.old.items t → Commits t (file_state file.old) (file_state file.new) waiting.new.items result }
+fn make<F: LastingTables>(file: &mut F, waiting: &mut Vec<Change>) -> Result<(), StorageFault>
+    ensures { (t : Tables) → Awaits (F.LastingTables.state file.old) waiting.old.items t → Commits t (F.LastingTables.state file.old) (F.LastingTables.state file.new) waiting.new.items result }
 {
     stored_tables_are_one();
     match file.apply(waiting.as_slice()) {
@@ -53,8 +52,11 @@ fn make(file: &mut FileTables, waiting: &mut Vec<Change>) -> Result<(), StorageF
 }
 
 // Asks the file where it didn't answer, and makes the changes that wait, if any do.
-fn commit_once(file: &mut FileTables, waiting: &mut Vec<Change>) -> Result<(), StorageFault>
-    ensures { (t : Tables) → Awaits (file_state file.old) waiting.old.items t → Commits t (file_state file.old) (file_state file.new) waiting.new.items result }
+fn commit_once<F: LastingTables>(
+    file: &mut F,
+    waiting: &mut Vec<Change>,
+) -> Result<(), StorageFault>
+    ensures { (t : Tables) → Awaits (F.LastingTables.state file.old) waiting.old.items t → Commits t (F.LastingTables.state file.old) (F.LastingTables.state file.new) waiting.new.items result }
 {
     stored_tables_are_one();
     match file.wake() {
@@ -70,12 +72,12 @@ fn commit_once(file: &mut FileTables, waiting: &mut Vec<Change>) -> Result<(), S
 
 /// Makes the changes that wait in the file, and once more with the room that is spared where it found none. An error may be asked again
 /// where memory ran out or the disk has no room.
-pub(crate) fn commit(
-    file: &mut FileTables,
+pub(crate) fn commit<F: LastingTables>(
+    file: &mut F,
     waiting: &mut Vec<Change>,
     spare: &mut SpareRoom,
 ) -> Result<(), CommitError>
-    ensures { (t : Tables) → Awaits (file_state file.old) waiting.old.items t → Commits t (file_state file.old) (file_state file.new) waiting.new.items result }
+    ensures { (t : Tables) → Awaits (F.LastingTables.state file.old) waiting.old.items t → Commits t (F.LastingTables.state file.old) (F.LastingTables.state file.new) waiting.new.items result }
 {
     let first = commit_once(file, waiting);
     if !lacks_room(&first) {

@@ -1,7 +1,6 @@
 //! The keeper of rows that reads from memory and writes to a file too.
 ghost use Rattle.std.specs.Prelude.{◌≡◌, length, take, IsTrue, OnOk, OnErr};
 ghost use Rattle.sqlite.specs.State.{HasCleanDisk};
-ghost use Rattle.sqlite.specs.Files.{file_state};
 ghost use Rattle.s3_rows.specs.Columns.{Tables};
 ghost use Rattle.s3_stored_rows.specs.Changes.{after_all};
 ghost use Rattle.s3_tables.specs.Keeping.{tables as file_tables};
@@ -13,7 +12,7 @@ use s3_sql_rows::SqlRows;
 use s3_stored_rows::{
     Change, StoreNumbers, StoredBucket, StoredPart, StoredRows, StoredUpload, StoredVersion,
 };
-use s3_table_files::{FileTables, SpareRoom};
+use s3_table_files::{LastingTables, SpareRoom};
 use s3_tables::stored_tables_are_one;
 use s3_terms::NoMemory;
 use std::alloc::Global;
@@ -26,35 +25,34 @@ use std::marker::Model;
 /// doesn't hold the room that is spared for a commit; then it changes nothing, and nothing waits for it. Where a commit has an error, all
 /// that waited waits on for the next one; a file that the disk has shut takes no more.
 #[derive(Drop)]
-pub struct MirroredRows {
+pub struct MirroredRows<F: LastingTables> {
     memory: SqlRows,
-    file: FileTables,
+    file: F,
     // Copies of the changes that memory has and the file hasn't, oldest first.
     waiting: Vec<Change>,
     spare: SpareRoom,
 }
 
-impl Model for MirroredRows {
+impl<F: LastingTables> Model for MirroredRows<F> {
     ghost use Rattle.std.specs.Coded.{codes};
-    ghost use Rattle.sqlite.specs.Files.{file_state};
     ghost use Rattle.s3_mirrored_rows.specs.Mirror.{Mirror, mirror_code, Awaits};
 
-    ghost Value = { Mirror };
+    ghost Value = { Mirror F };
 
-    ghost coded = { mirror_code (Prim.hlevel codes) (Prim.hlevel codes) };
+    ghost coded = { mirror_code (Prim.hlevel codes) F.code };
 
     ghost view = { λ m. record { memory = m.memory; file = m.file } };
 
-    ghost invariant = { λ m. Awaits (file_state m.file) m.waiting.items m.memory };
+    ghost invariant = { λ m. Awaits (F.LastingTables.state m.file) m.waiting.items m.memory };
 }
 
-impl MirroredRows {
+impl<F: LastingTables> MirroredRows<F> {
     /// The rows in memory over a file that has the same, and answers, in a folder that has this room to spare.
-    pub fn new(alloc: Global, memory: SqlRows, file: FileTables, spare: SpareRoom) -> MirroredRows
-        requires open { HasCleanDisk (file_state file) → IsTrue (file_state file).is_open }
-        requires same { HasCleanDisk (file_state file) → file_tables (file_state file) ≡ memory }
+    pub fn new(alloc: Global, memory: SqlRows, file: F, spare: SpareRoom) -> MirroredRows<F>
+        requires open { HasCleanDisk (F.LastingTables.state file) → IsTrue (F.LastingTables.state file).is_open }
+        requires same { HasCleanDisk (F.LastingTables.state file) → file_tables (F.LastingTables.state file) ≡ memory }
         ensures value { result ≡ record { memory = memory; file = file } }
-        ensures durable { (t : Tables) → MayLeave (file_state file) t → t ≡ memory }
+        ensures durable { (t : Tables) → MayLeave (F.LastingTables.state file) t → t ≡ memory }
     {
         stored_tables_are_one();
         let _is_live = file.is_live();
@@ -64,6 +62,13 @@ impl MirroredRows {
             waiting: Vec::new(alloc),
             spare,
         }
+    }
+
+    /// The tables in files.
+    pub fn file(&self) -> &F
+        ensures { result.now ≡ self.now.file }
+    {
+        &self.file
     }
 }
 
@@ -83,10 +88,10 @@ fn apply_both(
 }
 
 /// A call that asks takes the time of the rows in memory, and a change that too; a commit takes that of the file, with its sync.
-impl StoredRows for MirroredRows {
+impl<F: LastingTables> StoredRows for MirroredRows<F> {
     ghost tables = { λ rows. rows.memory };
 
-    ghost leaves = { λ rows t. MayLeave (file_state rows.file) t };
+    ghost leaves = { λ rows t. MayLeave (F.LastingTables.state rows.file) t };
 
     fn are_unique(&self) {
         self.memory.are_unique();

@@ -29,8 +29,10 @@ pub(crate) struct HeldFolders;
 impl FolderKeeper for HeldFolders {
     type Kept = MapRecords;
 
+    ghost finds = { λ _ _ _. ⊥ };
+
     fn open(
-        &self,
+        &mut self,
         _alloc: Global,
         path: &str,
         _buckets: &[BucketName],

@@ -47,7 +47,9 @@ pub struct ListedBucket {
 /// is dropped. A keeper may hold all in memory (`is_in_memory`). A call tells where such a keeper can have the error;
 /// where it tells nothing, that can come at any time.
 ///
-/// What a crash leaves changes by `commit` alone: until that a crash leaves what it could leave before the change.
+/// No call but `commit` takes away what is known of what a crash leaves: until that it leaves one of the catalogues that were known
+/// before the change. Contracts tell that after each call. A crash within a call leaves what may be left where all that the call
+/// asks of the disk from then on fails.
 pub trait Records {
     ghost catalogue: { Self → Catalogue (List ℕ) };
 
@@ -74,9 +76,9 @@ pub trait Records {
             → leaves_one_of self.now known → leaves self.now left → IsOneOf left known };
 
     /// Commits all changes so far: where it answers `Ok`, a crash now leaves the catalogue as it is and no other, so that their
-    /// answers may be told. A crash before that, also during the call, leaves what it could leave before, or this. With them it
-    /// commits the number of the next entry, so that no entry after a crash gets one below it. A keeper in memory, of which a crash
-    /// leaves nothing, has no error here.
+    /// answers may be told. A crash before it answers, also during the call, leaves what it could leave before, or this. With the
+    /// changes it commits the number of the next entry, so that no entry after a crash gets one below it. A keeper in memory, of which
+    /// a crash leaves nothing, has no error here.
     ///
     /// # Errors
     ///

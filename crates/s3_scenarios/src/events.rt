@@ -73,7 +73,7 @@ fn answers<W: Wait>(waits: &W, rt: &HostRuntime, words: &[&str], events: &[u8]) 
         words,
         &SystemFiles(rt),
         &MapKeeper,
-        &NoFolders,
+        &mut NoFolders,
         &mut device,
         &mut errors,
     ) {

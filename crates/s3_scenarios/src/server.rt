@@ -29,8 +29,10 @@ pub(crate) struct NoFolders;
 impl FolderKeeper for NoFolders {
     type Kept = MapRecords;
 
+    ghost finds = { λ _ _ _. ⊥ };
+
     fn open(
-        &self,
+        &mut self,
         _alloc: Global,
         _path: &str,
         _buckets: &[BucketName],

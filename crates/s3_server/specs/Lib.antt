@@ -1,2 +1,3 @@
+pub mod Found
 pub mod Serve
 pub mod Served

@@ -6,6 +6,7 @@
 
 mod arrivals;
 mod connection_table;
+mod found;
 mod jobs;
 mod limits;
 mod logging;

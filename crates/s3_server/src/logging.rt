@@ -3,12 +3,14 @@
 ghost use Rattle.std.specs.Prelude.{◌≡◌, IfErr};
 ghost use Rattle.s3_server.specs.Serve.{IsLogFault};
 
+use crate::found::found_line;
+use s3_keepers::FoundAmounts;
 use s3_log::{Log, LogWriter};
 use s3_settings::{Fault, Files, ServeMode};
 use s3_terms::NoMemory;
 use std::alloc::Global;
 use std::sync::Wait;
-use std::time::Clock;
+use std::time::{Clock, Instant};
 
 /// A log for each worker, and the file that they go to.
 #[derive(Drop)]
@@ -56,6 +58,24 @@ impl<'a, F: Files> Logging<'a, F> {
         }))
     }
 
+    /// Tells what was found in the folder at a path, if there is a log, and how long its opening took, which began then. Where
+    /// that can't be told, the line is lost.
+    pub(crate) fn tell_found<R: Clock>(
+        rt: &R,
+        alloc: Global,
+        logging: Option<&Logging<'a, F>>,
+        path: &str,
+        found: FoundAmounts,
+        since: Option<Instant>,
+    ) {
+        let Some(logging) = logging else {
+            return;
+        };
+        if let Ok(line) = found_line(alloc, path, found, microseconds(rt, since)) {
+            let _written = logging.files.append(logging.path, &line);
+        }
+    }
+
     /// What the worker of this number tells lines to.
     pub(crate) fn log(&self, number: usize) -> Option<&Log> {
         self.logs.get(number)
@@ -66,6 +86,12 @@ impl<'a, F: Files> Logging<'a, F> {
         let mut writer = writer;
         writer.write(rt, alloc, &self.logs, self.files, self.path);
     }
+}
+
+// How many microseconds have gone by since then, if the clock can be read.
+fn microseconds<R: Clock>(rt: &R, since: Option<Instant>) -> Option<u64> {
+    let waited = since?.elapsed(rt).ok()?;
+    u64::try_from(waited.as_micros()).ok()
 }
 
 // So many logs, each of one teller.

@@ -33,7 +33,7 @@ use std::io::Write;
 use std::net::Net;
 use std::sync::Wait;
 use std::thread::Threads;
-use std::time::Clock;
+use std::time::{Clock, Instant};
 
 // The status of a server that ended.
 const DONE: u8 = 0;
@@ -42,8 +42,9 @@ const DONE: u8 = 0;
 const FAILED: u8 = 1;
 
 /// Starts a server as `options` say, serves until its end, and answers the exit status. `files` has the keys file, and
-/// takes the log. Records are kept in maps, or as `tables` keeps them where the options ask for `sql`. The log gets one line for
-/// each message, or for its loss.
+/// takes the log. Records are kept in maps, or as `tables` keeps them where the options ask for `sql`, or by `folders` where they
+/// name a folder. The log gets one line for what was found in the folder, before the server listens, and one for each message, or
+/// for its loss.
 ///
 /// It listens once. Then it serves as many connections as are asked for, as often as is asked for: in each round workers of its own
 /// have doors of their own, which are closed at its end, and the history begins anew at the store that the round before left. A
@@ -81,7 +82,7 @@ pub fn serve_words<
     options: &ServeOptions<'_>,
     files: &F,
     tables: &Q,
-    folders: &D,
+    folders: &mut D,
     network: &mut Network<'_, N>,
     report: &mut ServerReport,
     output: &mut W,
@@ -123,7 +124,7 @@ fn serve<
     options: &ServeOptions<'a>,
     files: &'a F,
     tables: &Q,
-    folders: &D,
+    folders: &mut D,
     network: &mut Network<'_, N>,
     report: &mut ServerReport,
     output: &mut W,
@@ -156,7 +157,7 @@ fn serve_mode<
     files: &'a F,
     records: RecordsKind,
     tables: &Q,
-    folders: &D,
+    folders: &mut D,
     network: &mut Network<'_, N>,
     report: &mut ServerReport,
     output: &mut W,
@@ -251,7 +252,7 @@ fn serve_folder<
     config: &Config,
     logging: Option<&Logging<'a, F>>,
     path: &'a str,
-    folders: &D,
+    folders: &mut D,
     network: &mut Network<'_, N>,
     report: &mut ServerReport,
     output: &mut W,
@@ -263,7 +264,7 @@ fn serve_folder<
     ensures refused { IfErr result (IsKeptFault mode.now) }
     ensures begun { OnErr result (IsToldInPart mode.now.rounds (W.contents output.old) (W.contents output.new)) }
 {
-    let store = found_store(alloc, folders, path, config)?;
+    let store = found_store(rt, alloc, logging, folders, path, config)?;
     serve_store(
         rt, alloc, mode, config, logging, store, network, report, output,
     )
@@ -302,11 +303,13 @@ fn serve_store<
     )
 }
 
-// A store over the records in a folder.
+// A store over the records in a folder, of which the log tells what was found.
 #[tactic(auto, using(crate::proofs::BaseLemmas::basing))]
-fn found_store<'a, D: FolderKeeper>(
+fn found_store<'a, R: Clock, F: Files, D: FolderKeeper>(
+    rt: &R,
     alloc: Global,
-    folders: &D,
+    logging: Option<&Logging<'a, F>>,
+    folders: &mut D,
     path: &'a str,
     config: &Config,
 ) -> Result<Store<D::Kept>, Fault<'a>>
@@ -314,9 +317,16 @@ fn found_store<'a, D: FolderKeeper>(
     ensures sound { IfOk result (λ store. IsSoundBase store.standing.state store.standing.number) }
     ensures refused { IfErr result (IsFolderFault (Some path.entry)) }
 {
+    let since = Instant::now(rt).ok();
     match folders.open(alloc, path, config.buckets()) {
         Ok(opened) => {
-            let Opened { records, number } = opened;
+            let Opened {
+                records,
+                number,
+                found,
+                ..
+            } = opened;
+            Logging::tell_found(rt, alloc, logging, path, found, since);
             Ok(Store::over(records, number))
         }
         Err(StorageFault::NoMemory) => Err(Fault::OutOfMemory),

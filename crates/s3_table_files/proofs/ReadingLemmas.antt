@@ -6,6 +6,7 @@ use Rattle.sqlite.specs.declared.error.Error.{Error}
 use Rattle.sqlite.specs.State.{State, HasCleanDisk}
 use Rattle.s3_rows.specs.Columns.{Tables}
 use Rattle.s3_tables.specs.Keeping.{tables, Keeps, Reads}
+use Rattle.s3_table_files.specs.Opening.{StaysTo}
 
 pub of_ok : {R : Type 0} (P : R → Type 0) (answer : Result R Error) (x : R) → Some x ≡ result_ok answer → IfOk answer P → P x
 of_ok P (Ok y) x same value = let is : y ≡ x = cc in subst P is value
@@ -39,6 +40,16 @@ module _ (s0 s1 s2 s3 s4 s5 : State) (r1 : Reads s0 s1) (r2 : Reads s1 s2) (r3 :
       five_same {a = tables s5} {b = found}
       (ap (λ (t : Tables). t.buckets) e1 ∙ sym (buckets c1)) (ap (λ (t : Tables). t.versions) e2 ∙ sym (versions c2))
       (ap (λ (t : Tables). t.uploads) e3 ∙ sym (uploads c3)) (ap (λ (t : Tables). t.parts) e4 ∙ sym (parts c4)) (ap (λ (t : Tables). t.store) e5 ∙ sym (store c5))
+
+-- tables that were only read stay
+module _ (s0 s1 s2 s3 s4 s5 : State) (r1 : Reads s0 s1) (r2 : Reads s1 s2) (r3 : Reads s2 s3) (r4 : Reads s3 s4) (r5 : Reads s4 s5) where
+  stays : (old mid new : State) → StaysTo old mid → Reads mid new → StaysTo old new
+  stays old mid new before reads = λ clean up.
+      let was = before (clean_before mid new reads clean) (reads.was_open clean up) in
+      (was.0, was.1, reads.kept clean up ∙ was.2)
+
+  pub all_stay : StaysTo s0 s5
+  all_stay = stays s0 s4 s5 (stays s0 s3 s4 (stays s0 s2 s3 (stays s0 s1 s2 (λ clean up. (clean_before s0 s1 r1 clean, r1.was_open clean up, r1.kept clean up)) r2) r3) r4) r5
 
 -- where nothing is done nothing is read
 pub none_read : (s : State) → (HasCleanDisk s → Keeps s) → Reads s s

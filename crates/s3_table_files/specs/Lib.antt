@@ -1,3 +1,3 @@
 pub mod Faults
 pub mod Opening
-pub mod System
+pub mod Blocks

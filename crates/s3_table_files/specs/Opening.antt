@@ -1,9 +1,9 @@
 -- What an open finds.
-use Rattle.std.specs.Prelude.{◌≡◌, ◌⊎◌, pos}
+use Rattle.std.specs.Prelude.{◌≡◌, ◌⊎◌, pos, IsTrue}
 use Rattle.sqlite_wal.specs.Recovery.{Image}
 use Rattle.sqlite_trees.specs.Tree.{Trees}
 use Rattle.sqlite_catalog.specs.Listing.{IsSound}
-use Rattle.sqlite.specs.State.{State}
+use Rattle.sqlite.specs.State.{State, HasCleanDisk}
 use Rattle.sqlite.specs.Files.{AreFoundIn}
 use Rattle.s3_rows.specs.Columns.{StoreColumns}
 use Rattle.s3_tables.specs.Schema.{no_schema}
@@ -22,3 +22,7 @@ TakesOver old new = ((old.now.schema ≡ no_schema) × (tables new ≡ first_tab
 -- the tables are those that the files held, or are made where they held no table
 abbrev pub TakesFrom : Image → State → Type 0
 TakesFrom image new = (db : Trees) × AreFoundIn image db × ((IsSound no_schema db × (tables new ≡ first_tables first_row)) ⊎ (tables new ≡ tables_in db))
+
+-- an open connection over a clean disk was so before, with the same tables
+abbrev pub StaysTo : State → State → Type 0
+StaysTo old new = HasCleanDisk new → IsTrue new.is_open → HasCleanDisk old × IsTrue old.is_open × (tables new ≡ tables old)

@@ -1,6 +1,7 @@
 //! The file of the blocks.
-ghost use Rattle.std.specs.Prelude.{false, IsTrue, IfOk, IfErr};
+ghost use Rattle.std.specs.Prelude.{◌≡◌, false, IsTrue, IfOk, IfErr};
 ghost use Rattle.sqlite_std_file.specs.File.{file_is_usable, IsFresh};
+ghost use Rattle.s3_table_files.specs.Blocks.{file_seen};
 ghost use Rattle.s3_table_files.specs.Faults.{IsOfOpening};
 
 use crate::faults::file_fault;
@@ -20,6 +21,7 @@ pub fn open_blocks<S: Start>(
 ) -> Result<FileFrom<S>, StorageFault>
     ensures usable { IfOk result (λ file. IsTrue (file_is_usable S.Start file)) }
     ensures fresh { IfOk result (λ file. IsFresh false file) }
+    ensures holds { IfOk result (λ file. file_seen S.Start file ≡ S.Start.db) }
     ensures fault { IfErr result IsOfOpening }
 {
     match sqlite_std_file::open(rt, path, start) {

@@ -6,6 +6,7 @@ ghost use Rattle.sqlite.specs.Held.{state};
 ghost use Rattle.s3_tables.specs.Keeping.{tables};
 ghost use Rattle.s3_found_rows.specs.Found.{tables_of};
 ghost use Rattle.s3_table_files.specs.Faults.{IsOfTables};
+ghost use Rattle.s3_table_files.specs.Opening.{StaysTo};
 
 use crate::faults::table_fault;
 use s3_found_rows::FoundTables;
@@ -22,6 +23,7 @@ pub fn read_tables<S: Alter>(
     file: &mut TableFile<S>,
 ) -> Result<FoundTables, StorageFault>
     ensures found { IfOk result (λ found. HasCleanDisk (state S.Store file.new) → IsTrue (state S.Store file.new).is_open → tables (state S.Store file.new) ≡ tables_of found) }
+    ensures stays { IfOk result (λ _. StaysTo (state S.Store file.old) (state S.Store file.new)) }
     ensures fault { IfErr result IsOfTables }
 {
     let buckets = told(file.bucket_rows(alloc))?;

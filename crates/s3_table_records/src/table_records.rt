@@ -4,7 +4,7 @@ ghost use Rattle.s3_records.specs.Catalogue.{opening};
 ghost use Rattle.s3_rows.specs.Columns.{Tables, no_rows};
 ghost use Rattle.s3_table_records.specs.Kept.{kept, kept_in, catalogue, IsKept};
 ghost use Rattle.s3_table_records.specs.Leaving.{IsLeft, LeavesOneOf, one_of_more};
-ghost use Rattle.s3_table_records.specs.Numbered.{row_of, SaysNumber, IsAbove, LeavesNumber};
+ghost use Rattle.s3_table_records.specs.Numbered.{row_of, SaysNumber, IsAbove, LeavesNumber, AreNumbered};
 
 use crate::numbering::{above, commit_numbered, counted, later, latest};
 use crate::{
@@ -92,6 +92,14 @@ impl<R: StoredRows, B: StoredBodies> TableRecords<R, B> {
             number,
             written: number,
         }
+    }
+
+    /// The rows. Whatever of them a crash leaves says a number for the next entry, above those that made what is left.
+    pub fn rows(&self) -> &R
+        ensures value { result.now ≡ self.now.rows }
+        ensures numbered { (t : Tables) → R.leaves self.now.rows t → AreNumbered t }
+    {
+        &self.rows
     }
 }
 

@@ -9,7 +9,7 @@ ghost use Rattle.std.specs.Process.{exit_status};
 
 use s3_cli::{Ran, run_words};
 use s3_devices::{Device, Recorded, Streams};
-use s3_file_records::FileKeeper;
+use s3_file_records::SystemKeeper;
 use s3_keepers::{FolderKeeper, Keeper};
 use s3_server::{ServerReport, serve_words};
 use s3_settings::{Files, ServeOptions};
@@ -75,7 +75,7 @@ fn serve<
     options: &ServeOptions<'_>,
     files: &F,
     tables: &Q,
-    folders: &D,
+    folders: &mut D,
     output: &mut W,
     errors: &mut E,
 ) -> u8 {
@@ -96,10 +96,14 @@ fn serve<
     )
 }
 
-fn main(rt: HostRuntime) -> ExitCode {
-    let (alloc, files) = (rt.alloc(), SystemFiles(&rt));
-    let (tables, folders) = (SqlKeeper, FileKeeper(&rt));
-    let words = arguments(&rt).unwrap_or(Vec::new(alloc));
+// Runs as the words say that the program was started with, over the folders of a keeper. `waits` is the runtime, as it waits.
+fn run<R: Wait + Threads + Net + Clock + Sync, D: FolderKeeper>(
+    waits: &R,
+    rt: &HostRuntime,
+    folders: &mut D,
+) -> ExitCode {
+    let (alloc, files) = (rt.alloc(), SystemFiles(rt));
+    let words = arguments(rt).unwrap_or(Vec::new(alloc));
     let (Some(mut device), Some(mut errors)) = (
         Recorded::new(Streams {
             input: rt.stdin(),
@@ -113,12 +117,12 @@ fn main(rt: HostRuntime) -> ExitCode {
         return ExitCode::FAILURE;
     };
     let ran = run_words(
-        &rt,
+        waits,
         alloc,
         words.as_slice(),
         &files,
-        &tables,
-        &folders,
+        &SqlKeeper,
+        folders,
         &mut device,
         &mut errors,
     );
@@ -127,15 +131,19 @@ fn main(rt: HostRuntime) -> ExitCode {
         Ran::Serve(options) => {
             let mut output = rt.stdout();
             serve(
-                &rt,
+                waits,
                 alloc,
                 &options,
                 &files,
-                &tables,
-                &folders,
+                &SqlKeeper,
+                folders,
                 &mut output,
                 &mut errors,
             )
         }
     })
+}
+
+fn main(rt: HostRuntime) -> ExitCode {
+    run(&rt, &rt, &mut SystemKeeper(&rt))
 }

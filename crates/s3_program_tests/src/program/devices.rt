@@ -163,7 +163,7 @@ pub fn run<'a, R: Wait>(
         words,
         files,
         &FullTables,
-        &HeldFolders,
+        &mut HeldFolders,
         &mut device,
         &mut errors,
     ))

@@ -103,7 +103,7 @@ fn server<R: Wait + Threads + Net + Clock + Sync>(
         &options(records, folder),
         &files,
         &FullTables,
-        &HeldFolders,
+        &mut HeldFolders,
         &mut network,
         &mut report,
         &mut output,

@@ -1,21 +1,10 @@
 use denote.Param.Send.{sendable}
-use Rattle.s3_sql_rows.proofs.SendLemmas.{rows_send}
-use Rattle.s3_stored_bodies.proofs.memory_bodies.MemoryBodies.TheSendSync.{the_send as bodies_send}
 use Rattle.s3_table_records.proofs.table_records.TableRecords.TheSendSync.{the_send as records_send}
 use Rattle.s3_block_bodies.proofs.block_bodies.BlockBodies.TheSendSync.{the_send as block_bodies_send}
 use Rattle.sqlite_disk.proofs.modelled.Modelled.TheSendSync.{the_send as disk_send}
 use Rattle.s3_file_records.proofs.SendLemmas.{mirrored_send, host_send}
 use Rattle.s3d.proofs.main.Goals as goal
 
--- records in tables may go to another thread, as their rows and their bodies may
-pub run_words-ran-requires-send-Q-Kept : goal.run_words-ran-requires-send-Q-Kept
-run_words-ran-requires-send-Q-Kept g c κs = search (sendable, records_send, rows_send, bodies_send) depth 20
-
-pub serve-requires-send-Q-Kept : goal.serve-requires-send-Q-Kept
-serve-requires-send-Q-Kept g c κs = search (sendable, records_send, rows_send, bodies_send) depth 20
-
-pub run_words-ran-requires-send-G-Kept : goal.run_words-ran-requires-send-G-Kept
-run_words-ran-requires-send-G-Kept g c κs = search (sendable, records_send, mirrored_send, block_bodies_send, disk_send, host_send) depth 20
-
-pub serve-requires-send-D-Kept : goal.serve-requires-send-D-Kept
-serve-requires-send-D-Kept g c κs = search (sendable, records_send, mirrored_send, block_bodies_send, disk_send, host_send) depth 20
+-- records in a folder may go to another thread, as their rows and their bodies may
+pub run-requires-send-D-Kept : goal.run-requires-send-D-Kept
+run-requires-send-D-Kept c κs = search (sendable, records_send, mirrored_send, block_bodies_send, disk_send, host_send) depth 20

@@ -1,12 +1,12 @@
-use Rattle.std.proofs.Common.{◌≡◌, sym, ap, subst, ◌∙◌, true, [], ◌∷◌, ◌++◌, take}
+use Rattle.std.proofs.Common.{◌≡◌, refl, sym, ap, subst, ◌∙◌, true, [], ◌∷◌, ◌++◌, take}
 use Rattle.std.proofs.lemmas.List.{take_more}
 use Rattle.s3_records.specs.Catalogue.{has_bucket}
-use Rattle.s3_keepers.specs.Begun.{HasBuckets}
-use Rattle.s3_keepers.proofs.MissingLemmas.{one_more}
+use Rattle.s3_keepers.specs.Begun.{HasBuckets, with_bucket, with_buckets}
+use Rattle.s3_keepers.proofs.MissingLemmas.{one_more, one_bucket_more}
 use Rattle.s3_keepers.proofs.missing.add_missing.Goals as goal
 
 pub loop-name-init : goal.loop-name-init
-loop-name-init g c = record { there = tt; sound = λ number sound. sound }
+loop-name-init g c = record { value = refl; there = tt; sound = λ number sound. sound }
 
 pub loop-name-preserved : goal.loop-name-preserved
 loop-name-preserved g c =
@@ -18,6 +18,8 @@ loop-name-preserved g c =
     let new = catalogue c.add_if_missing.new.records in
     let more : take i names ++ name ∷ [] ≡ take _ names = ap (λ k. take i names ++ k ∷ []) c.name-item.is ∙ sym (take_more names i name c.loop-name-test.true) in
     record {
+      value = c.in_ok-add_if_missing.ensures.value ∙ ap (λ m. with_bucket m name) c.loop-name.invariant.value ∙ sym (one_bucket_more (take i names) name (catalogue c.args.records.now))
+          ∙ ap (λ all. with_buckets all (catalogue c.args.records.now)) more;
       there = subst (λ all. HasBuckets all new) more
           (one_more (λ n. has_bucket now n ≡ true) (λ n. has_bucket new n ≡ true) c.in_ok-add_if_missing.ensures.others (take i names) name c.loop-name.invariant.there
           c.in_ok-add_if_missing.ensures.there);

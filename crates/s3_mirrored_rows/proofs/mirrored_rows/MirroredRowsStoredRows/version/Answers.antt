@@ -1,11 +1,10 @@
 use Rattle.std.proofs.Common.{sym, subst, to_z-of_z}
-use Rattle.sqlite.specs.Files.{file_state}
 use Rattle.s3_rows.specs.Columns.{Tables}
 use Rattle.s3_mirrored_rows.specs.Mirror.{Awaits}
 use Rattle.s3_mirrored_rows.proofs.mirrored_rows.MirroredRowsStoredRows.version.Goals as goal
 
 pub invariant_of-self : goal.invariant_of-self
-invariant_of-self c = subst (λ (t : Tables). Awaits (file_state c.self.inside.file) c.self.inside.waiting.items t) (sym c.version.ensures.same) c.self.invariant
+invariant_of-self g c = subst (λ (t : Tables). Awaits (g.F.LastingTables.state c.self.inside.file) c.self.inside.waiting.items t) (sym c.version.ensures.same) c.self.invariant
 
 pub returns-clause-value : goal.returns-clause-value
-returns-clause-value c = rw (← c.self.view_is) (rw (to_z-of_z c.ranges.id) at c.version.ensures.value)
+returns-clause-value g c = rw (← c.self.view_is) (rw (to_z-of_z c.ranges.id) at c.version.ensures.value)

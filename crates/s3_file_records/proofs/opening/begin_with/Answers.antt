@@ -6,7 +6,7 @@ use Rattle.s3_row_steps.specs.Steps.{AreKept}
 use Rattle.s3_table_records.specs.Kept.{catalogue, kept_in}
 use Rattle.s3_table_records.specs.Numbered.{SaysNumber, IsAbove}
 use Rattle.s3_file_records.proofs.FoundLemmas.{above_found}
-use Rattle.s3_file_records.proofs.opening.with_buckets.Goals as goal
+use Rattle.s3_file_records.proofs.opening.begin_with.Goals as goal
 
 pub over-records-requires-clause-kept : goal.over-records-requires-clause-kept
 over-records-requires-clause-kept g c =
